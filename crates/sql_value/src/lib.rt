@@ -1,6 +1,6 @@
 //! Bytes and values: what every layer above reads, compares and prints.
 #![tactic(auto)]
 
-mod bytes;
+mod items;
 
-pub use bytes::{Bytes, Memory};
+pub use items::{Bytes, Items, Memory};
