@@ -1,0 +1,5 @@
+pub mod Faults
+pub mod Told
+pub mod Left
+pub mod Objects
+pub mod Written

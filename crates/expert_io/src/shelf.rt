@@ -1,0 +1,101 @@
+//! A shelf of named files, of which one is open at a time.
+ghost use Rattle.std.specs.Prelude.{◌≡◌, ◌<◌, ◌≤◌, ◌⊎◌, ℕ, List, [], length, IsOk, IsErr, IfOk, OnOk, OnErr, IfSome, IsErrOf};
+ghost use Rattle.std.specs.declared.option.Option.{Option};
+ghost use Rattle.std.specs.Io.{ReadsAtMost};
+ghost use Rattle.std.specs.Io.KnownBytes.{Consumes, IsAtEnd, ReadConsumes};
+ghost use Rattle.expert_io.specs.Faults.{Rose, HasCause};
+ghost use Rattle.expert_io.specs.Told.{file_of, Lacks, Holds};
+
+use sql_value::Bytes;
+use crate::sink::Failed;
+use std::alloc::Global;
+
+/// Named files, of which one is open at a time.
+pub trait Shelf {
+    // the files, by name, where they are told
+    ghost files: { Self → Option (List (List ℕ × List ℕ)) };
+
+    // what reads of the file that was opened last will still give, where it is told
+    ghost left: { Self → Option (List ℕ) };
+
+    ghost faults: { Self → ℕ };
+
+    fn open_file(&mut self, name: &[u8]) -> Result<(), Failed>
+        ensures files { files self.new ≡ files self.old }
+        ensures opened { OnOk result (IfSome (files self.old) (λ told. (bytes : List ℕ)
+            × (file_of told name.now ≡ Some bytes) × (left self.new ≡ Some bytes))) }
+        ensures closed { OnErr result (IfSome (files self.old) (λ _. left self.new ≡ Some [])) }
+        ensures later { faults self.old ≤ faults self.new }
+        ensures kept { OnOk result (faults self.new ≡ faults self.old) }
+        ensures lacks { Lacks (files self.old) name.now → IsErr result × (faults self.new ≡ faults self.old) }
+        ensures failed { OnErr result (Lacks (files self.old) name.now ⊎ Rose (faults self.old) (faults self.new)) };
+
+    fn read(&mut self, buf: &mut [u8]) -> Result<usize, Failed>
+        ensures files { files self.new ≡ files self.old }
+        ensures bound { ReadsAtMost result buf.new }
+        ensures bytes { ReadConsumes (left self.old) (left self.new) result buf.new }
+        ensures cause { HasCause (faults self.old) (faults self.new) result };
+}
+
+#[derive(Clone, Copy, Debug, PartialEq, Eq)]
+pub enum ReadFault {
+    Failed,
+    TooLarge,
+    Memory,
+}
+
+// What is left of the open file.
+fn read_left<F: Shelf>(alloc: Global, shelf: &mut F, limit: u64) -> Result<Bytes, ReadFault>
+    ensures files { F.files shelf.new ≡ F.files shelf.old }
+    ensures ok { IfOk result (λ bytes. IfSome (F.left shelf.old) (λ all. bytes ≡ all) × (length bytes ≤ limit)) }
+    ensures too_large { IsErrOf result ReadFault.TooLarge → IfSome (F.left shelf.old) (λ all. limit < length all) }
+    ensures later { F.faults shelf.old ≤ F.faults shelf.new }
+    ensures failed_only { IsErrOf result ReadFault.Failed → Rose (F.faults shelf.old) (F.faults shelf.new) }
+    ensures failed_always { F.faults shelf.old < F.faults shelf.new → IsErrOf result ReadFault.Failed }
+{
+    let mut bytes = Bytes::new(alloc);
+    let mut room = limit;
+    let mut buf = [0u8; 4096];
+    loop {
+        let n = match shelf.read(&mut buf) {
+            Ok(n) => n,
+            Err(_) => return Err(ReadFault::Failed),
+        };
+        if n == 0 {
+            return Ok(bytes);
+        }
+        if n as u64 > room {
+            return Err(ReadFault::TooLarge);
+        }
+        if bytes.append(&buf[..n]).is_err() {
+            return Err(ReadFault::Memory);
+        }
+        room -= n as u64;
+    }
+}
+
+/// The bytes of a file, if it has at most `limit`.
+pub fn read_file<F: Shelf>(
+    alloc: Global,
+    shelf: &mut F,
+    name: &[u8],
+    limit: u64,
+) -> Result<Bytes, ReadFault>
+    ensures files { F.files shelf.new ≡ F.files shelf.old }
+    ensures ok { IfOk result (λ bytes. length bytes ≤ limit) }
+    ensures told { IfOk result (λ bytes. IfSome (F.files shelf.old) (λ told. file_of told name.now ≡ Some bytes)) }
+
+    ensures later { F.faults shelf.old ≤ F.faults shelf.new }
+    ensures failed_always { F.faults shelf.old < F.faults shelf.new → IsErrOf result ReadFault.Failed }
+    ensures lacks { Lacks (F.files shelf.old) name.now → IsErrOf result ReadFault.Failed }
+    ensures failed_only { IsErrOf result ReadFault.Failed →
+        Lacks (F.files shelf.old) name.now ⊎ Rose (F.faults shelf.old) (F.faults shelf.new) }
+
+    ensures too_large_only { IsErrOf result ReadFault.TooLarge →
+        IfSome (F.files shelf.old) (λ told. (bytes : List ℕ) × (file_of told name.now ≡ Some bytes) × (limit < length bytes)) }
+{
+    match shelf.open_file(name) {
+        Ok(()) => read_left(alloc, shelf, limit),
+        Err(_) => Err(ReadFault::Failed),
+    }
+}
