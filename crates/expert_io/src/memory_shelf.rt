@@ -30,12 +30,12 @@ impl Model for MemoryShelf {
     ghost Value = { Shelved };
 
     ghost view = { λ s. record {
-        files = s.files;
-        failing = s.failing;
-        most = s.most;
-        left = left_of s.files s.current s.at;
-        calls = s.calls;
-        faults = s.faults
+      files = s.files;
+      failing = s.failing;
+      most = s.most;
+      left = left_of s.files s.current s.at;
+      calls = s.calls;
+      faults = s.faults;
     } };
 
     ghost invariant = { λ s. 1 ≤ s.most };

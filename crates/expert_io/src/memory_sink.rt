@@ -26,12 +26,12 @@ impl Model for MemorySink {
     ghost Value = { Sunk };
 
     ghost view = { λ s. record {
-        written = s.held.items;
-        room = s.room;
-        failing = s.failing;
-        most = s.most;
-        calls = s.calls;
-        faults = s.faults
+      written = s.held.items;
+      room = s.room;
+      failing = s.failing;
+      most = s.most;
+      calls = s.calls;
+      faults = s.faults;
     } };
 
     ghost invariant = { λ s. (s.room ≤ vec_capacity s.held) × (vec_len s.held ≤ s.room) × (1 ≤ s.most) };

@@ -1,4 +1,4 @@
-//! The real files and streams, which tell nothing of what they hold.
+//! The real files and streams: the edge that is trusted, since nothing tells what they hold.
 ghost use Rattle.std.specs.Prelude.{None};
 
 use crate::shelf::Shelf;

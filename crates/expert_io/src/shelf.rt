@@ -4,22 +4,28 @@ ghost use Rattle.std.specs.declared.option.Option.{Option};
 ghost use Rattle.std.specs.Io.{ReadsAtMost};
 ghost use Rattle.std.specs.Io.KnownBytes.{Consumes, IsAtEnd, ReadConsumes};
 ghost use Rattle.expert_io.specs.Faults.{Rose, HasCause};
-ghost use Rattle.expert_io.specs.Told.{file_of, Lacks, Holds};
+ghost use Rattle.expert_io.specs.Told.{file_of, Lacks};
 
-use sql_value::Bytes;
 use crate::sink::Failed;
+use sql_value::Bytes;
 use std::alloc::Global;
+
+/// How many bytes one read asks for, at most.
+const PIECE: u64 = 4096;
 
 /// Named files, of which one is open at a time.
 pub trait Shelf {
-    // the files, by name, where they are told
+    // The files by name, where they are told. No call changes them.
     ghost files: { Self → Option (List (List ℕ × List ℕ)) };
 
-    // what reads of the file that was opened last will still give, where it is told
+    // What reads of the file that was opened last will still give, where it is told.
     ghost left: { Self → Option (List ℕ) };
 
+    // How many calls failed for a reason of the outside. The count never falls.
     ghost faults: { Self → ℕ };
 
+    /// Opens the file of a name in place of the one that is open. It fails where a shelf that tells its
+    /// files has none of this name, and by a fault; then no file is open.
     fn open_file(&mut self, name: &[u8]) -> Result<(), Failed>
         ensures files { files self.new ≡ files self.old }
         ensures opened { OnOk result (IfSome (files self.old) (λ told. (bytes : List ℕ)
@@ -30,6 +36,8 @@ pub trait Shelf {
         ensures lacks { Lacks (files self.old) name.now → IsErr result × (faults self.new ≡ faults self.old) }
         ensures failed { OnErr result (Lacks (files self.old) name.now ⊎ Rose (faults self.old) (faults self.new)) };
 
+    /// Moves the next bytes of the open file into the front of the buffer and answers how many: 0 for a
+    /// buffer that is not empty says that the file ends here. It fails by a fault alone.
     fn read(&mut self, buf: &mut [u8]) -> Result<usize, Failed>
         ensures files { files self.new ≡ files self.old }
         ensures bound { ReadsAtMost result buf.new }
@@ -37,14 +45,18 @@ pub trait Shelf {
         ensures cause { HasCause (faults self.old) (faults self.new) result };
 }
 
+/// Why a file was not read.
 #[derive(Clone, Copy, Debug, PartialEq, Eq)]
 pub enum ReadFault {
+    /// The shelf has no such file, or a call of it failed.
     Failed,
+    /// The file has more bytes than the limit.
     TooLarge,
+    /// Memory was wanting.
     Memory,
 }
 
-// What is left of the open file.
+// What is left of the open file, if it has at most `limit` bytes.
 fn read_left<F: Shelf>(alloc: Global, shelf: &mut F, limit: u64) -> Result<Bytes, ReadFault>
     ensures files { F.files shelf.new ≡ F.files shelf.old }
     ensures ok { IfOk result (λ bytes. IfSome (F.left shelf.old) (λ all. bytes ≡ all) × (length bytes ≤ limit)) }
@@ -57,7 +69,9 @@ fn read_left<F: Shelf>(alloc: Global, shelf: &mut F, limit: u64) -> Result<Bytes
     let mut room = limit;
     let mut buf = [0u8; 4096];
     loop {
-        let n = match shelf.read(&mut buf) {
+        // One byte behind the limit tells that the file is too large.
+        let want = room.saturating_add(1).min(PIECE) as usize;
+        let n = match shelf.read(&mut buf[..want]) {
             Ok(n) => n,
             Err(_) => return Err(ReadFault::Failed),
         };
@@ -74,7 +88,8 @@ fn read_left<F: Shelf>(alloc: Global, shelf: &mut F, limit: u64) -> Result<Bytes
     }
 }
 
-/// The bytes of a file, if it has at most `limit`.
+/// The bytes of a file, if it has at most `limit`. No byte is asked for beyond the first one behind
+/// the limit, and no more is held than the limit and one buffer.
 pub fn read_file<F: Shelf>(
     alloc: Global,
     shelf: &mut F,
