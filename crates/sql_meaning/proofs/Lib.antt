@@ -1,0 +1,4 @@
+pub mod Order
+pub mod Scaled
+pub mod Reading
+pub mod Conversions

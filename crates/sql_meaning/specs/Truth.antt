@@ -1,0 +1,35 @@
+-- The truth of a value as a condition: true, false or unknown.
+use Rattle.std.specs.Prelude.{ℕ, nat_abs, Bool, not, ◌||◌, ◌==◌, if◌then◌else◌, List, [], ◌∷◌, ◌++◌, drop, Option, Some, None, take_while}
+use Rattle.std.specs.Char.{is_ascii_digit}
+use Rattle.std.specs.List.{prefix_len, list_any}
+use Rattle.sql_meaning.specs.Values.{Value, Null, Int, Dec, Text, Blob, without_leading}
+
+abbrev pub without_sign : List ℕ → List ℕ
+without_sign [] = []
+without_sign (b ∷ bs) = if b == 43 || b == 45 then bs else (b ∷ bs)
+
+abbrev pub front_digits : List ℕ → List ℕ
+front_digits bytes = take_while is_ascii_digit bytes
+
+-- the digits behind a point, where one comes first
+abbrev pub digits_behind_point : List ℕ → List ℕ
+digits_behind_point [] = []
+digits_behind_point (b ∷ bs) = if b == 46 then front_digits bs else []
+
+-- the digits of the longest run of spaces, a sign, digits, a point and digits at the start, each of
+-- which may be missing
+abbrev pub run_digits : List ℕ → List ℕ
+run_digits bytes = digits_of (without_sign (without_leading 32 bytes))
+  where
+    digits_of : List ℕ → List ℕ
+    digits_of bytes = front_digits bytes ++ digits_behind_point (drop (prefix_len is_ascii_digit bytes) bytes)
+
+abbrev pub is_true_text : List ℕ → Bool
+is_true_text bytes = list_any (λ digit. not (digit == 48)) (run_digits bytes)
+
+abbrev pub truth3 : Value → Option Bool
+truth3 Null = None
+truth3 (Int number) = Some (not (nat_abs number == 0))
+truth3 (Dec units) = Some (not (nat_abs units == 0))
+truth3 (Text bytes) = Some (is_true_text bytes)
+truth3 (Blob bytes) = Some (is_true_text bytes)
