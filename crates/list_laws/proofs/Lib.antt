@@ -1,0 +1,11 @@
+pub mod Lists
+pub mod Tallies
+pub mod Permutations
+pub mod Stretches
+pub mod Orders
+pub mod FirstComings
+pub mod KeyStretches
+pub mod Unions
+pub mod Nests
+pub mod NestOrders
+pub mod Arrangements

@@ -1,0 +1,5 @@
+pub mod Tally
+pub mod Order
+pub mod Stretch
+pub mod FirstComing
+pub mod Nest
