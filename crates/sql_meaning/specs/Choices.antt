@@ -1,0 +1,137 @@
+use Rattle.std.specs.Prelude.{List, ℕ, Bool, true, ◌&&◌, [], ◌∷◌, cond, Option, Some, None, ◌++◌, map}
+use Rattle.std.specs.List.{flat_map}
+use Rattle.std.specs.Ordering.{nat_cmp, eq_by_cmp}
+use Rattle.list_laws.specs.Order.{sort_by}
+use Rattle.list_laws.specs.FirstComing.{keep_first}
+use Rattle.sql_meaning.specs.Rows.{Site, AtRowid, AtColumn}
+use Rattle.sql_meaning.specs.Terms.{Term, keys_of, TermKind, Equals, Within, IsNothing, Low, High}
+use Rattle.sql_meaning.specs.Expressions.{names}
+use Rattle.sql_meaning.specs.Paths.{KeyExpr, EqPart, OneKey, ManyKeys, NullKey, Edge, Path, RowidRange, RowidEq, IndexSeek, Paths, Nowhere, Then}
+use Rattle.sql_meaning.specs.Statements.{all_in}
+use Rattle.sql_meaning.specs.Orders.{same_site, same_collation}
+use Rattle.sql_meaning.specs.Schemas.{IndexColumn}
+use Rattle.sql_meaning.specs.OrderState.{column_site}
+
+-- 4.9: the terms of a column, in 5.5's order
+pub record ColumnTerms : Type 0 where
+  pub column : Site
+  pub equals : List Term
+  pub lows : List Term
+  pub highs : List Term
+
+-- a term may be used where the items that its other side_conversion names are placed
+abbrev pub keys_in : List ℕ → List KeyExpr → Bool
+keys_in placed [] = true
+keys_in placed (k ∷ ks) = all_in (names k.expr) placed && keys_in placed ks
+
+abbrev pub is_usable : List ℕ → Term → Bool
+is_usable placed t = keys_in placed (keys_of t.kind)
+
+-- IS NULL, and every term on the rowid, need no equal collation
+abbrev pub suits : Site → TermKind → Bool → Bool
+suits AtRowid kind same = true
+suits (AtColumn column) IsNothing same = true
+suits (AtColumn column) (Equals key) same = same
+suits (AtColumn column) (Within keys) same = same
+suits (AtColumn column) (Low key inclusive) same = same
+suits (AtColumn column) (High key inclusive) same = same
+
+abbrev pub first_that : (Term → Bool) → List Term → Option Term
+first_that p [] = None
+first_that p (t ∷ ts) = cond (p t) (Some t) (first_that p ts)
+
+abbrev pub terms_at : Site → List ColumnTerms → ColumnTerms
+terms_at site [] = record { column = site; equals = []; lows = []; highs = [] }
+terms_at site (c ∷ cs) = cond (same_site c.column site) c (terms_at site cs)
+
+abbrev pub part_or : TermKind → EqPart
+part_or (Equals key) = OneKey key
+part_or (Within keys) = ManyKeys keys
+part_or IsNothing = NullKey
+part_or (Low key inclusive) = NullKey
+part_or (High key inclusive) = NullKey
+
+abbrev pub edge_or : TermKind → Option Edge
+edge_or (Equals key) = None
+edge_or (Within keys) = None
+edge_or IsNothing = None
+edge_or (Low key inclusive) = Some (record { key = key; inclusive = inclusive })
+edge_or (High key inclusive) = Some (record { key = key; inclusive = inclusive })
+
+abbrev pub edge_of : Option Term → Option Edge
+edge_of None = None
+edge_of (Some t) = edge_or t.kind
+
+abbrev pub one_or_none : Option Term → List Term
+one_or_none None = []
+one_or_none (Some t) = t ∷ []
+
+-- what a seek takes
+pub record Taken : Type 0 where
+  pub eqs : List EqPart
+  pub low : Option Edge
+  pub high : Option Edge
+  pub used : List Term
+
+abbrev pub nothing_taken : Taken
+nothing_taken = record { eqs = []; low = None; high = None; used = [] }
+
+abbrev pub take_bounds : Option Term → Option Term → Taken
+take_bounds low high = record { eqs = []; low = edge_of low; high = edge_of high; used = one_or_none low ++ one_or_none high }
+
+abbrev pub take_equal : Option Term → Taken → Taken → Taken
+take_equal (Some t) rest bounds = record { eqs = part_or t.kind ∷ rest.eqs; low = rest.low; high = rest.high; used = t ∷ rest.used }
+take_equal None rest bounds = bounds
+
+abbrev pub fits_column : List ℕ → Option ℕ → IndexColumn → Term → Bool
+fits_column placed alias c t = is_usable placed t && suits (column_site alias c.column) t.kind (same_collation t.collation c.collation)
+
+-- 5.7: for each column from the first on the first usable equality term until a column has none, then that column's first usable bounds
+abbrev pub seek_terms : List ℕ → Option ℕ → List ColumnTerms → List IndexColumn → Taken
+seek_terms placed alias columns [] = nothing_taken
+seek_terms placed alias columns (c ∷ cs) =
+    take_equal (first_that (fits_column placed alias c) (terms_at (column_site alias c.column) columns).equals) (seek_terms placed alias columns cs)
+    (take_bounds (first_that (fits_column placed alias c) (terms_at (column_site alias c.column) columns).lows) (first_that (fits_column placed alias c) (terms_at (column_site alias c.column) columns).highs))
+
+-- an offer's path with its used terms
+pub record Offer : Type 0 where
+  pub path : Path
+  pub used : List Term
+
+abbrev pub rowid_range : Option Term → Option Term → Option Offer
+rowid_range None None = None
+rowid_range (Some l) high = Some (record { path = RowidRange (edge_of (Some l)) (edge_of high); used = one_or_none (Some l) ++ one_or_none high })
+rowid_range None (Some h) = Some (record { path = RowidRange None (edge_of (Some h)); used = one_or_none None ++ one_or_none (Some h) })
+
+abbrev pub rowid_equal : Option Term → Option Offer → Option Offer
+rowid_equal (Some t) range = Some (record { path = RowidEq (part_or t.kind); used = t ∷ [] })
+rowid_equal None range = range
+
+-- 5.7, kind 2: by the first usable equality term of the rowid, else by its first usable bounds
+abbrev pub rowid_offer : List ℕ → List ColumnTerms → Option Offer
+rowid_offer placed columns =
+    rowid_equal (first_that (is_usable placed) (terms_at AtRowid columns).equals) (rowid_range (first_that (is_usable placed) (terms_at AtRowid columns).lows) (first_that (is_usable placed) (terms_at AtRowid columns).highs))
+
+-- 5.7, kind 3: a seek, which needs at least one part
+abbrev pub seek_of : ℕ → Taken → List Term → Option Offer
+seek_of index taken [] = None
+seek_of index taken (t ∷ ts) = Some (record { path = IndexSeek index taken.eqs taken.low taken.high; used = t ∷ ts })
+
+abbrev pub seek_offer : List ℕ → Option ℕ → List ColumnTerms → ℕ → List IndexColumn → Option Offer
+seek_offer placed alias columns index cs = seek_of index (seek_terms placed alias columns cs) (seek_terms placed alias columns cs).used
+
+abbrev pub number_list : Option ℕ → List ℕ
+number_list None = []
+number_list (Some n) = n ∷ []
+
+-- the conjuncts whose direct terms it uses, rising and each once
+abbrev pub consumed_of : List Term → List ℕ
+consumed_of ts = keep_first (eq_by_cmp nat_cmp) [] (sort_by nat_cmp (flat_map (λ t. number_list t.conjunct) ts))
+
+-- 5.7, kind 4: a union of one offer for each branch
+abbrev pub paths_of : List Offer → Paths
+paths_of [] = Nowhere
+paths_of (o ∷ os) = Then o.path (paths_of os)
+
+abbrev pub used_of : List Offer → List (List Term)
+used_of os = map (λ o. o.used) os
