@@ -26,7 +26,7 @@ use Rattle.sql_meaning.specs.Evaluation.{ev}
 use Rattle.sql_meaning.specs.Asked.{Means, uncut}
 use Rattle.sql_meaning.proofs.Plans.{steps_items}
 use Rattle.sql_meaning.proofs.Ordered.{IsLoopPassed, nested_ends, nested_passes, loop_passed}
-use Rattle.sql_meaning.proofs.Values.{value_cmp_total}
+use Rattle.sql_meaning.proofs.Order.{value_cmp_total}
 use Rattle.sql_meaning.proofs.Seeks.{directed_total}
 use Rattle.sql_meaning.proofs.Means.{numbers_distinct, numbers_inside, plan_rows}
 use Rattle.sql_meaning.proofs.Equals.{rows_eq, rows_true, rows_itself}

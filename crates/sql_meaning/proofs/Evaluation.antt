@@ -1,7 +1,9 @@
 use Rattle.std.proofs.Common.{◌≡◌, List, ◌∷◌, refl, ap, ◌∙◌, map}
 use Rattle.list_laws.specs.Nest.{Agree}
 use Rattle.list_laws.proofs.Lists.{agree_first, agree_second}
-use Rattle.sql_meaning.specs.Values.{Value, converted_by, truth3}
+use Rattle.sql_meaning.specs.Values.{Value}
+use Rattle.sql_meaning.specs.Conversions.{converted_by}
+use Rattle.sql_meaning.specs.Truth.{truth3}
 use Rattle.sql_meaning.specs.Rows.{Rows, AtRowid, AtColumn, row_value}
 use Rattle.sql_meaning.specs.Expressions.{BExpr, Lit, Param, Column, Rowid, Plus, Collate, Cmp, OneOf, IsNull, Not, All, Any, BExprs, Nil, More, names, all_names}
 use Rattle.sql_meaning.specs.Evaluation.{compare3, not3, negated_if, from_truth, one_of3, all3, any3, ev, evs}

@@ -1,6 +1,8 @@
 use Rattle.std.specs.declared.cmp.Ordering.TheVariants.{Less, Equal as Ties}
 use Rattle.std.proofs.Common.{◌≡◌, pos, [], ◌∷◌, refl, negsuc, decimal, ◌++◌, Some, true, false, None, ℤ, List, Bool, Option, map}
-use Rattle.sql_meaning.specs.Values.{Int, Text, Integer, converted, Dec, Real, TextAffinity, Numeric, Binary, value_cmp, Rtrim, Nocase, Blob, truth3, side_conversion, BlobAffinity, Value, Null}
+use Rattle.sql_meaning.specs.Values.{Int, Text, Integer, Dec, Real, TextAffinity, Numeric, Binary, value_cmp, Rtrim, Nocase, Blob, BlobAffinity, Value, Null}
+use Rattle.sql_meaning.specs.Conversions.{converted, side_conversion}
+use Rattle.sql_meaning.specs.Truth.{truth3}
 use Rattle.sql_meaning.specs.Rows.{Row, AtColumn}
 use Rattle.sql_meaning.specs.Schemas.{Schema}
 use Rattle.sql_meaning.specs.Expressions.{Lit, Column, IsNull, Rowid, IsEqual, Cmp, IsAtMost, Any, Nil, More}

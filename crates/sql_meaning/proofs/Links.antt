@@ -5,16 +5,17 @@ use Rattle.std.specs.Ordering.{is_eq}
 use Rattle.std.proofs.Common.{◌≡◌, ℕ, suc, zero, List, [], ◌∷◌, Some, subst, Bool, true, false, cond, ◌||◌, None, refl, ◌∙◌, ap, not, ◌&&◌, sym, ap₂}
 use Rattle.std.proofs.lemmas.Cmp.{tied_back}
 use Rattle.sql_meaning.specs.Evaluation.{is_true, compares, ev, holds}
-use Rattle.sql_meaning.specs.Values.{Value, Collation, value_cmp, is_null, Affinity, is_numeric, Integer, Real, Numeric, TextAffinity, BlobAffinity, is_text, side_conversion, converted_by}
+use Rattle.sql_meaning.specs.Values.{Value, Collation, value_cmp, is_null, Affinity, Integer, Real, Numeric, TextAffinity, BlobAffinity}
+use Rattle.sql_meaning.specs.Conversions.{is_numeric, is_text, side_conversion, converted_by}
 use Rattle.sql_meaning.specs.Expressions.{IsEqual, BExpr, Lit, Param, Column, Rowid, Plus, Collate, Cmp, OneOf, IsNull, Not, All, Any, ColumnRef, plain_column, bare_column, IsUnequal, IsBelow, IsAtMost, IsAbove, IsAtLeast, site_expr}
 use Rattle.sql_meaning.specs.Schemas.{Schema}
-use Rattle.sql_meaning.specs.Items.{Item, own_column, affinity_of, FitsExpr}
+use Rattle.sql_meaning.specs.Items.{Item, own_column, expr_affinity, FitsExpr}
 use Rattle.sql_meaning.specs.Links.{affinity_class, Links, Linked, link, back, chain, Derives, by_key, by_column}
 use Rattle.sql_meaning.specs.Rows.{Rows, cell, Site, AtRowid, AtColumn}
 use Rattle.sql_meaning.specs.Paths.{key_value}
 use Rattle.sql_meaning.specs.Terms.{Equals, Term, term_holds}
 use Rattle.sql_meaning.proofs.Terms.{some_is, bare_is, truth_again, serves_is}
-use Rattle.sql_meaning.proofs.Values.{value_cmp_total}
+use Rattle.sql_meaning.proofs.Order.{value_cmp_total}
 
 pub all_at : {A : Type 0} (P : A → Type 0) (xs : List A) (number : ℕ) (x : A) → AllByRecursion P xs → slice_get xs number ≡ Some x → P x
 all_at P [] number x h e = absurd (cc)
@@ -41,7 +42,7 @@ equal_along collation v w x h k =
     let q = parts_of (is_null w) (is_null x) (value_cmp collation w x) k in
     from_parts (is_null v) (is_null x) (value_cmp collation v x) p.0 q.1 ((value_cmp_total collation).congr v w x p.2 ∙ q.2)
 
-plain_affinity : (schema : Schema) (items : List Item) (e : BExpr) (c : ColumnRef) → plain_column e ≡ Some c → affinity_of schema items e ≡ Some (own_column schema items c).affinity
+plain_affinity : (schema : Schema) (items : List Item) (e : BExpr) (c : ColumnRef) → plain_column e ≡ Some c → expr_affinity schema items e ≡ Some (own_column schema items c).affinity
 plain_affinity schema items (Column i n) c h = ap (λ r. Some (own_column schema items r).affinity) (some_is _ c h)
 plain_affinity schema items (Rowid i) c h = ap (λ r. Some (own_column schema items r).affinity) (some_is _ c h)
 plain_affinity schema items (Lit v) c h = absurd (cc)
@@ -55,7 +56,7 @@ plain_affinity schema items (Not e) c h = absurd (cc)
 plain_affinity schema items (All es) c h = absurd (cc)
 plain_affinity schema items (Any es) c h = absurd (cc)
 
-bare_affinity : (schema : Schema) (items : List Item) (e : BExpr) (c : ColumnRef) → bare_column e ≡ Some c → affinity_of schema items e ≡ Some (own_column schema items c).affinity
+bare_affinity : (schema : Schema) (items : List Item) (e : BExpr) (c : ColumnRef) → bare_column e ≡ Some c → expr_affinity schema items e ≡ Some (own_column schema items c).affinity
 bare_affinity schema items (Collate e collation) c h = plain_affinity schema items e c h
 bare_affinity schema items (Column i n) c h = plain_affinity schema items (Column i n) c h
 bare_affinity schema items (Rowid i) c h = plain_affinity schema items (Rowid i) c h

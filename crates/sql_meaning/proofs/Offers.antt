@@ -9,7 +9,8 @@ use Rattle.list_laws.proofs.Nests.{place_other}
 use Rattle.list_laws.proofs.Tallies.{SameTally-refl, SameTally-sym, SameTally-map}
 use Rattle.list_laws.proofs.Permutations.{SameTally-from_permutation}
 use Rattle.sql_meaning.specs.Statements.{has_number, all_in, Conjunct, chosen_hold, exprs_of, Bound, FitsStatement}
-use Rattle.sql_meaning.specs.Values.{Value, converted_by, Collation}
+use Rattle.sql_meaning.specs.Values.{Value, Collation}
+use Rattle.sql_meaning.specs.Conversions.{converted_by}
 use Rattle.sql_meaning.specs.Rows.{Rows, row_value, cell, Row, Site, site_value}
 use Rattle.sql_meaning.specs.Expressions.{names, IsEqual, IsBelow, IsAtMost, IsAbove, IsAtLeast, BExpr, Lit, Param, Column, Rowid, Plus, Collate, Cmp, OneOf, IsNull, Not, All, Any, BExprs, Nil, More, flat, flat_all}
 use Rattle.sql_meaning.specs.Paths.{KeyExpr, key_value, Path, form_of, form_holds, TableScan, RowidEq, RowidRange, IndexScan, IndexSeek, Union, carried, is_union, Paths, Nowhere, Then, any_carried, walk}

@@ -25,7 +25,7 @@ use Rattle.sql_meaning.specs.Schemas.{Schema, AliasHolds, RisingRows}
 use Rattle.sql_meaning.specs.Conjuncts.{level_test}
 use Rattle.sql_meaning.specs.Offers.{IsDatabase}
 use Rattle.sql_meaning.proofs.Terms.{bare_is}
-use Rattle.sql_meaning.proofs.Values.{value_cmp_total}
+use Rattle.sql_meaning.proofs.Order.{value_cmp_total}
 use Rattle.sql_meaning.proofs.Rises.{directed_tie, pos_cmp, collation_is, site_is, path_tied, path_positions_tied, walk_carried, all_reverse, by_positions, walk_rises, rises_filter}
 use Rattle.sql_meaning.proofs.Offers.{and_left, and_right, cell_placed}
 use Rattle.sql_meaning.proofs.Passes.{AreTied, IsPassed, IsFront, held_front, IsDirection, leaves_keys, pass_is}

@@ -6,7 +6,8 @@ use Rattle.list_laws.specs.Nest.{place, nested, step_items, Agree, Looks, AreSte
 use Rattle.list_laws.specs.Tally.{tally, SameTally}
 use Rattle.list_laws.proofs.Lists.{flat_map_same, all_always, all_map, filter-filter}
 use Rattle.list_laws.proofs.Tallies.{SameTally-refl, SameTally-filter}
-use Rattle.sql_meaning.specs.Values.{Value, truth3}
+use Rattle.sql_meaning.specs.Values.{Value}
+use Rattle.sql_meaning.specs.Truth.{truth3}
 use Rattle.sql_meaning.specs.Rows.{Row, Rows}
 use Rattle.sql_meaning.specs.Schemas.{Schema}
 use Rattle.sql_meaning.specs.Statements.{Bound, is_common, is_empty, has_number, Conjunct, no_owner, chosen_hold, is_left, owned_by, OwnersAreLeft, or_missing, item_rows, item_alias, choices}

@@ -24,7 +24,7 @@ use Rattle.sql_meaning.proofs.Scaled.{scaled_cmp}
 use Rattle.sql_meaning.proofs.Paths.{rowid_less, all_sort, entry_cmp_total, all_list, walk_is}
 use Rattle.sql_meaning.proofs.Links.{equal_back, equal_along, parts_of}
 use Rattle.sql_meaning.proofs.Offers.{and_left, and_right}
-use Rattle.sql_meaning.proofs.Values.{value_cmp_total}
+use Rattle.sql_meaning.proofs.Order.{value_cmp_total}
 
 -- two rows by a position, in the walk's direction
 abbrev pub pos_cmp : Bool → Position → Row → Row → Ordering

@@ -19,7 +19,7 @@ use Rattle.sql_meaning.specs.Evaluation.{is_true, compares, op_holds, equals_any
 use Rattle.sql_meaning.specs.Expressions.{IsEqual, Op, IsAbove, IsAtLeast, IsBelow, IsAtMost}
 use Rattle.sql_meaning.specs.Rows.{Row, Site, site_value}
 use Rattle.sql_meaning.specs.Walks.{End, is_below, is_above, range_walk, bounds_walk, low_holds, high_holds, key_stretch, walked_keys, Part, One, Many, NullPart, seek, parts_hold}
-use Rattle.sql_meaning.proofs.Values.{value_cmp_total}
+use Rattle.sql_meaning.proofs.Order.{value_cmp_total}
 
 pub directed_total : (falling : Bool) {cmp : Value → Value → Ordering} → IsTotalOrder cmp → IsTotalOrder (directed falling cmp)
 directed_total true o = back_total o

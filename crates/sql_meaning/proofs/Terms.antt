@@ -2,7 +2,9 @@ use Rattle.std.specs.declared.cmp.Ordering.{Ordering}
 use Rattle.std.specs.declared.cmp.Ordering.TheVariants.{Less, Equal as Ties, Greater}
 use Rattle.std.specs.Ordering.{ordering_reverse}
 use Rattle.std.proofs.Common.{◌≡◌, Some, List, ap, Bool, true, false, Option, None, refl, ◌||◌, cond, ◌∙◌, ℕ, inl, inr, map, [], ◌∷◌, sym, ℤ, ◌&&◌, ◌++◌}
-use Rattle.sql_meaning.specs.Values.{Value, truth3, Collation, value_cmp, is_null, Affinity, converted_by, Null, Int, Dec, Text, Blob}
+use Rattle.sql_meaning.specs.Values.{Value, Collation, value_cmp, is_null, Affinity, Null, Int, Dec, Text, Blob}
+use Rattle.sql_meaning.specs.Truth.{truth3}
+use Rattle.sql_meaning.specs.Conversions.{converted_by}
 use Rattle.sql_meaning.specs.Rows.{Rows, cell, Site, Row, AtRowid, AtColumn, site_value}
 use Rattle.sql_meaning.specs.Expressions.{BExpr, Lit, Param, Column, Rowid, Plus, Collate, Cmp, OneOf, IsNull, Not, All, Any, ColumnRef, plain_column, bare_column, Op, IsEqual, IsUnequal, IsBelow, IsAtMost, IsAbove, IsAtLeast, BExprs, Nil, More}
 use Rattle.sql_meaning.specs.Evaluation.{ev, from_truth, or3, is_true, op_holds, compares, holds, one_of3, evs, equals_any, any3}
@@ -11,7 +13,7 @@ use Rattle.sql_meaning.specs.Paths.{KeyExpr, key_value, EqPart, part_value, Edge
 use Rattle.sql_meaning.specs.Schemas.{AliasHolds}
 use Rattle.sql_meaning.specs.IndexLists.{SortColumn}
 use Rattle.sql_meaning.specs.Walks.{part_holds, low_holds, high_holds, parts_hold}
-use Rattle.sql_meaning.proofs.Values.{value_cmp_total}
+use Rattle.sql_meaning.proofs.Order.{value_cmp_total}
 
 pub some_is : {A : Type 0} (x y : A) → Some x ≡ Some y → x ≡ y
 some_is x y e = cc

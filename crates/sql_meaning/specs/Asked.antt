@@ -2,9 +2,9 @@ use Rattle.std.specs.Prelude.{cond, List, map}
 use Rattle.std.specs.List.Sorted.{IsPermutation}
 use Rattle.std.specs.List.{AllByRecursion}
 use Rattle.list_laws.specs.Order.{sort_by, Ascends}
-use Rattle.sql_meaning.specs.Values.{Value}
+use Rattle.sql_meaning.specs.Values.{Value, IsValue}
 use Rattle.sql_meaning.specs.Rows.{Row, Rows}
-use Rattle.sql_meaning.specs.Schemas.{Schema, IsValue, IsDatabaseOf}
+use Rattle.sql_meaning.specs.Schemas.{Schema, IsDatabaseOf}
 use Rattle.sql_meaning.specs.Plans.{Plan, plan_walks}
 use Rattle.sql_meaning.specs.Orders.{by_keys}
 use Rattle.sql_meaning.specs.Statements.{Bound, statement_rows, cut, image}

@@ -3,7 +3,9 @@ use Rattle.std.specs.declared.cmp.Ordering.{Ordering}
 use Rattle.std.specs.Ordering.{is_eq, is_ne, is_lt, is_le, is_gt, is_ge}
 use Rattle.std.specs.Option.{option_map}
 use Rattle.sql_meaning.specs.Expressions.{Op, IsEqual, IsUnequal, IsBelow, IsAtMost, IsAbove, IsAtLeast, BExpr, BExprs, Lit, Param, Column, Rowid, Plus, Collate, Cmp, OneOf, IsNull, Not, All, Any, Nil, More}
-use Rattle.sql_meaning.specs.Values.{Value, Collation, value_cmp, is_null, Null, Int, truth3, converted_by}
+use Rattle.sql_meaning.specs.Values.{Value, Collation, value_cmp, is_null, Null, Int}
+use Rattle.sql_meaning.specs.Truth.{truth3}
+use Rattle.sql_meaning.specs.Conversions.{converted_by}
 use Rattle.sql_meaning.specs.Rows.{AtRowid, AtColumn, Rows, cell}
 
 abbrev pub op_holds : Op → Ordering → Bool

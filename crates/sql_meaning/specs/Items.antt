@@ -1,6 +1,7 @@
 use Rattle.std.specs.Prelude.{ℕ, Bool, Option, Some, None, slice_get, List, ◌≡◌}
 use Rattle.sql_meaning.specs.Schemas.{Schema, TableColumn, column_or, column_of_table}
-use Rattle.sql_meaning.specs.Values.{Binary, Integer, Affinity, side_conversion}
+use Rattle.sql_meaning.specs.Values.{Binary, Integer, Affinity}
+use Rattle.sql_meaning.specs.Conversions.{side_conversion}
 use Rattle.sql_meaning.specs.Rows.{Site, AtRowid, AtColumn}
 use Rattle.sql_meaning.specs.Expressions.{ColumnRef, BExpr, Column, Rowid, Collate, Lit, Param, Plus, Cmp, OneOf, IsNull, Not, All, Any, BExprs, Nil, More}
 
@@ -22,11 +23,11 @@ abbrev pub own_column : Schema → List Item → ColumnRef → TableColumn
 own_column schema items c = own_at schema (slice_get items c.item) c.site
 
 -- 5.2's affinity of an expression
-abbrev pub affinity_of : Schema → List Item → BExpr → Option Affinity
-affinity_of schema items (Column item column) = Some (own_column schema items (record { item = item; site = AtColumn column })).affinity
-affinity_of schema items (Rowid item) = Some Integer
-affinity_of schema items (Collate e collation) = affinity_of schema items e
-affinity_of schema items e = None
+abbrev pub expr_affinity : Schema → List Item → BExpr → Option Affinity
+expr_affinity schema items (Column item column) = Some (own_column schema items (record { item = item; site = AtColumn column })).affinity
+expr_affinity schema items (Rowid item) = Some Integer
+expr_affinity schema items (Collate e collation) = expr_affinity schema items e
+expr_affinity schema items e = None
 
 -- 4.8: each conversion kept in a comparison or an IN is the one that 5.2 gives for its operands
 abbrev mutual
@@ -37,8 +38,8 @@ abbrev mutual
   FitsExpr schema items (Rowid item) = Unit {0}
   FitsExpr schema items (Plus e) = FitsExpr schema items e
   FitsExpr schema items (Collate e collation) = FitsExpr schema items e
-  FitsExpr schema items (Cmp op left right left_conversion right_conversion collation) = (left_conversion ≡ side_conversion (affinity_of schema items left) (affinity_of schema items right)) × (right_conversion ≡ side_conversion (affinity_of schema items right) (affinity_of schema items left)) × FitsExpr schema items left × FitsExpr schema items right
-  FitsExpr schema items (OneOf negated left entries entry_conversion collation) = (entry_conversion ≡ side_conversion None (affinity_of schema items left)) × FitsExpr schema items left × FitsExprs schema items entries
+  FitsExpr schema items (Cmp op left right left_conversion right_conversion collation) = (left_conversion ≡ side_conversion (expr_affinity schema items left) (expr_affinity schema items right)) × (right_conversion ≡ side_conversion (expr_affinity schema items right) (expr_affinity schema items left)) × FitsExpr schema items left × FitsExpr schema items right
+  FitsExpr schema items (OneOf negated left entries entry_conversion collation) = (entry_conversion ≡ side_conversion None (expr_affinity schema items left)) × FitsExpr schema items left × FitsExprs schema items entries
   FitsExpr schema items (IsNull negated e) = FitsExpr schema items e
   FitsExpr schema items (Not e) = FitsExpr schema items e
   FitsExpr schema items (All es) = FitsExprs schema items es

@@ -1,7 +1,8 @@
 use Rattle.std.specs.Prelude.{Option, List, Bool, ℕ, map, Some, None, [], ◌∷◌, ◌++◌, false, ◌||◌, true}
 use Rattle.std.specs.Ordering.{int_cmp, on, eq_by_cmp}
 use Rattle.list_laws.specs.FirstComing.{keep_first}
-use Rattle.sql_meaning.specs.Values.{Affinity, Value, converted_by}
+use Rattle.sql_meaning.specs.Values.{Affinity, Value}
+use Rattle.sql_meaning.specs.Conversions.{converted_by}
 use Rattle.sql_meaning.specs.Expressions.{BExpr}
 use Rattle.sql_meaning.specs.Rows.{Rows, Row}
 use Rattle.sql_meaning.specs.Evaluation.{ev}

@@ -1,8 +1,9 @@
-use Rattle.std.specs.Prelude.{ℕ, List, Option, Bool, Some, None, slice_get, [], ◌≡◌, ◌∷◌, slice_index_or, negsuc, true, nat_abs, nat_lt, ◌^◌, ◌⊎◌, length}
+use Rattle.std.specs.Prelude.{ℕ, List, Option, Bool, Some, None, slice_get, [], ◌≡◌, ◌∷◌, slice_index_or, length}
 use Rattle.std.specs.List.{AllByRecursion}
 use Rattle.std.specs.declared.cmp.Ordering.TheVariants.{Less}
 use Rattle.std.specs.Ordering.{int_cmp}
-use Rattle.sql_meaning.specs.Values.{Collation, Affinity, Binary, BlobAffinity, Null, Int, Value, Dec, Text, Blob, IsFixed}
+use Rattle.sql_meaning.specs.Values.{Collation, Affinity, Binary, BlobAffinity, Null, Int, IsValue}
+use Rattle.sql_meaning.specs.Conversions.{IsFixed}
 use Rattle.sql_meaning.specs.Rows.{Row}
 
 pub record TableColumn : Type 0 where
@@ -50,14 +51,6 @@ RisingRows (row ∷ rows) = AllByRecursion (λ later. int_cmp row.rowid later.ro
 -- D7: the alias column holds Int of the rowid
 abbrev pub AliasHolds : Option ℕ → Row → Type 0
 AliasHolds alias row = (column : ℕ) → alias ≡ Some column → slice_index_or row.values column Null ≡ Int row.rowid
-
--- D1: the bounds of a value's numbers
-abbrev pub IsValue : Value → Type 0
-IsValue Null = Unit {0}
-IsValue (Int n) = (nat_lt (nat_abs n) (2 ^ 63) ≡ true) ⊎ (n ≡ negsuc 9223372036854775807)
-IsValue (Dec u) = nat_lt (nat_abs u) (10 ^ 15) ≡ true
-IsValue (Text t) = Unit {0}
-IsValue (Blob b) = Unit {0}
 
 -- D7: a row of a table
 pub record ConformsTo (table : Option Table) (row : Row) : Type 0 where
