@@ -2,5 +2,9 @@
 #![tactic(auto)]
 
 mod items;
+mod keywords;
+mod reserved;
 
 pub use items::{Bytes, Items, Memory};
+pub use keywords::{Keyword, find_keyword, keyword_text};
+pub use reserved::{is_reserved, is_reserved_keyword};
