@@ -1,0 +1,4 @@
+pub mod Characters
+pub mod Runs
+pub mod Pieces
+pub mod Tokens
