@@ -232,8 +232,8 @@ pub fn keyword_text(keyword: Keyword) -> &'static [u8]
     }
 }
 
-/// Whether two words are the same but for the case of ASCII letters.
-fn is_same(left: &[u8], right: &[u8]) -> bool
+/// Whether two words or names are the same but for the case of ASCII letters.
+pub fn is_same_word(left: &[u8], right: &[u8]) -> bool
     ensures { result ≡ same_word left.now right.now }
 {
     left.eq_ignore_ascii_case(right)
@@ -244,7 +244,7 @@ fn find_among(word: &[u8], keywords: &[Keyword]) -> Option<Keyword>
     ensures { result ≡ find_word word.now keywords.now }
 {
     for keyword in keywords {
-        if is_same(word, keyword_text(*keyword)) {
+        if is_same_word(word, keyword_text(*keyword)) {
             return Some(*keyword);
         }
     }
