@@ -1,4 +1,6 @@
 pub mod Lines
+pub mod Marks
+pub mod Views
 pub mod Forms
 pub mod Report
 pub mod Run

@@ -2,6 +2,7 @@
 #![tactic(auto)]
 
 mod forms;
+mod marks;
 mod refusal;
 mod report;
 mod top;
