@@ -1,104 +1,193 @@
 use Rattle.std.specs.List.{AllByRecursion, filter, flat_map}
-use Rattle.std.proofs.Common.{◌≡◌, ◌≢◌, ℕ, List, None, get_or, refl, sym, get_or-set_other, [], ◌∷◌, ◌∙◌, Bool, true, false, cond, ◌&&◌, ap, Some, ◌++◌}
+use Rattle.std.proofs.Common.{◌≡◌, ◌≢◌, ℕ, List, None, get_or, refl, sym, get_or-set_other, [], ◌∷◌}
+use Rattle.std.proofs.Common.{◌∙◌, Bool, true, false, cond, ◌&&◌, ap, Some, ◌++◌}
 use Rattle.std.proofs.lemmas.List.{length-set}
 use Rattle.std.proofs.lemmas.List.Elements.{filter_agree}
-use Rattle.list_laws.specs.Nest.{Env, place, product, Agree, Apart, Step, nested, kept, step_items, IsStep, Inside, AreSteps, Distinct, Rearranges, same, next, swapped, after, AreFree, all_hold, IsPartOf}
+use Rattle.list_laws.specs.Nest.{Env, place, product, Agree, Apart, Step, nested, kept, step_items}
+use Rattle.list_laws.specs.Nest.{IsStep, Inside, AreSteps, Distinct, Rearranges, same, next}
+use Rattle.list_laws.specs.Nest.{swapped, after, AreFree, all_hold, IsPartOf}
 use Rattle.list_laws.specs.Tally.{tally, SameTally}
-use Rattle.list_laws.proofs.Lists.{all_map, all_always, all_flat_map, set_exchange, filter-flat_map, flat_map_same, filter-filter, agree_first, agree_second}
-use Rattle.list_laws.proofs.Tallies.{tally_zero, tally-filter, tally_agree, tally-flat_map, tally_same, tally_exchange, SameTally-filter}
+use Rattle.list_laws.proofs.Lists.{all_map, all_always, all_flat_map, set_exchange, filter-flat_map}
+use Rattle.list_laws.proofs.Lists.{flat_map_same, filter-filter, agree_first, agree_second}
+use Rattle.list_laws.proofs.Tallies.{tally_zero, tally-filter, tally_agree, tally-flat_map}
+use Rattle.list_laws.proofs.Tallies.{tally_same, tally_exchange, SameTally-filter}
 
 -- a is env but for these items
 abbrev pub Differs : {X : Type 0} → List ℕ → Env X → Env X → Type 0
-Differs items env a = (i : ℕ) → AllByRecursion (λ j. j ≢ i) items → get_or a i None ≡ get_or env i None
+Differs items env a =
+    (i : ℕ) → AllByRecursion (λ j. j ≢ i) items → get_or a i None ≡ get_or env i None
 
-pub place_other : {X : Type 0} (env : Env X) (i j : ℕ) (x : X) → i ≢ j → get_or (place env i x) j None ≡ get_or env j None
+pub place_other : {X : Type 0} (env : Env X) (i j : ℕ) (x : X) → i ≢ j
+    → get_or (place env i x) j None ≡ get_or env j None
 place_other env i j x n = let m : j ≢ i = λ e. n (sym e) in rw get_or-set_other refl
 
 -- each member is the given assignment but for its items
-product_differs : {X : Type 0} (rows : ℕ → Env X → List X) (items : List ℕ) (env : Env X) → AllByRecursion (Differs items env) (product rows items env)
+product_differs : {X : Type 0} (rows : ℕ → Env X → List X) (items : List ℕ) (env : Env X)
+    → AllByRecursion (Differs items env) (product rows items env)
 product_differs rows [] env = ((λ i n. refl), tt)
-product_differs rows (i ∷ items) env = all_flat_map _ _ (rows i env) (all_always _ (rows i env) (λ x. all_map _ _ _ (λ a d j n. d j n.1 ∙ place_other env i j x n.0) (product_differs rows items (place env i x))))
+product_differs rows (i ∷ items) env =
+    all_flat_map _ _ (rows i env)
+    (all_always _ (rows i env)
+    (λ x. all_map _ _ _ (λ a d j n. d j n.1 ∙ place_other env i j x n.0)
+    (product_differs rows items (place env i x))))
 
-agree_apart : {X : Type 0} (placed items : List ℕ) (env a : Env X) → Apart placed items → Differs items env a → Agree placed env a
+agree_apart : {X : Type 0} (placed items : List ℕ) (env a : Env X) → Apart placed items
+    → Differs items env a → Agree placed env a
 agree_apart placed items env a apart d = all_map _ _ placed (λ j n. d j n) apart
 
-pull : {Y : Type 0} (u v : Bool) (k : Y → Bool) (f : Y → ℕ) (ys : List Y) → cond u (cond v (tally (λ a. cond (k a) (f a) 0) ys) 0) 0 ≡ tally (λ a. cond (u && (v && k a)) (f a) 0) ys
+pull : {Y : Type 0} (u v : Bool) (k : Y → Bool) (f : Y → ℕ) (ys : List Y)
+    → cond u (cond v (tally (λ a. cond (k a) (f a) 0) ys) 0) 0
+    ≡ tally (λ a. cond (u && (v && k a)) (f a) 0) ys
 pull true true k f ys = refl
 pull true false k f ys = sym (tally_zero ys)
 pull false v k f ys = sym (tally_zero ys)
 
-tally_cond : {X : Type 0} (f : X → ℕ) (b : Bool) (xs : List X) → tally f (cond b xs []) ≡ cond b (tally f xs) 0
+tally_cond : {X : Type 0} (f : X → ℕ) (b : Bool) (xs : List X)
+    → tally f (cond b xs []) ≡ cond b (tally f xs) 0
 tally_cond f true xs = refl
 tally_cond f false xs = refl
 
 -- one row of a loop
-one_row : {X : Type 0} (rows : ℕ → Env X → List X) (f : Env X → ℕ) (t : Step X) (ts : List (Step X)) (placed : List ℕ) (env : Env X) → AllByRecursion (λ j. j ≢ t.item) (step_items ts) → Apart (t.item ∷ placed) (step_items ts) → IsStep rows placed t → (x : X) → SameTally (nested ts (place env t.item x)) (filter (kept ts) (product rows (step_items ts) (place env t.item x))) → cond (t.used (place env t.item x)) (tally f (cond (t.test (place env t.item x)) (nested ts (place env t.item x)) [])) 0 ≡ tally (λ a. cond (kept (t ∷ ts) a) (f a) 0) (product rows (step_items ts) (place env t.item x))
+one_row : {X : Type 0} (rows : ℕ → Env X → List X) (f : Env X → ℕ) (t : Step X) (ts : List (Step X))
+    (placed : List ℕ) (env : Env X)
+    → AllByRecursion (λ j. j ≢ t.item) (step_items ts) → Apart (t.item ∷ placed) (step_items ts)
+    → IsStep rows placed t → (x : X)
+    → SameTally (nested ts (place env t.item x))
+    (filter (kept ts) (product rows (step_items ts) (place env t.item x)))
+    → cond (t.used (place env t.item x))
+    (tally f (cond (t.test (place env t.item x)) (nested ts (place env t.item x)) [])) 0
+    ≡ tally (λ a. cond (kept (t ∷ ts) a) (f a) 0)
+    (product rows (step_items ts) (place env t.item x))
 one_row rows f t ts placed env n apart s x ih =
-    ap (λ m. cond (t.used (place env t.item x)) m 0) (tally_cond f (t.test (place env t.item x)) _ ∙ ap (λ m. cond (t.test (place env t.item x)) m 0) (ih.each f ∙ tally-filter f (kept ts) _))
+    ap (λ m. cond (t.used (place env t.item x)) m 0)
+    (tally_cond f (t.test (place env t.item x)) _
+    ∙ ap (λ m. cond (t.test (place env t.item x)) m 0) (ih.each f ∙ tally-filter f (kept ts) _))
     ∙ pull (t.used (place env t.item x)) (t.test (place env t.item x)) (kept ts) f _
-    ∙ tally_agree _ _ _ (all_map _ _ _ (λ a d. let agrees = agree_apart (t.item ∷ placed) (step_items ts) (place env t.item x) a apart d in rw (s.used_looks (place env t.item x) a agrees, s.test_looks (place env t.item x) a agrees) refl) (product_differs rows (step_items ts) (place env t.item x)))
+    ∙ tally_agree _ _ _
+    (all_map _ _ _
+    (λ a d. let agrees =
+    agree_apart (t.item ∷ placed) (step_items ts) (place env t.item x) a apart d in
+    rw
+    (s.used_looks (place env t.item x) a agrees, s.test_looks (place env t.item x) a agrees) refl)
+    (product_differs rows (step_items ts) (place env t.item x)))
 
-apart_step : (i : ℕ) (placed items : List ℕ) → AllByRecursion (λ j. j ≢ i) items → Apart placed (i ∷ items) → Apart (i ∷ placed) items
+apart_step : (i : ℕ) (placed items : List ℕ) → AllByRecursion (λ j. j ≢ i) items
+    → Apart placed (i ∷ items) → Apart (i ∷ placed) items
 apart_step i placed items n a = (n, all_map _ _ placed (λ j m. m.1) a)
 
-pub inside_place : {X : Type 0} (env : Env X) (i : ℕ) (x : X) (items : List ℕ) → Inside items env → Inside items (place env i x)
+pub inside_place : {X : Type 0} (env : Env X) (i : ℕ) (x : X) (items : List ℕ) → Inside items env
+    → Inside items (place env i x)
 inside_place env i x items h = all_map _ _ items (λ j lt. rw length-set lt) h
 
--- the nested walks are the assignments on which the used terms and the tests of all loops hold, each as often
-pub nested_is : {X : Type 0} (rows : ℕ → Env X → List X) (ts : List (Step X)) (placed : List ℕ) (env : Env X) → Inside (step_items ts) env → Distinct (step_items ts) → Apart placed (step_items ts) → AreSteps rows placed ts → SameTally (nested ts env) (filter (kept ts) (product rows (step_items ts) env))
+-- the nested walks are the assignments on which the used terms and the tests of all loops hold,
+-- each as often
+pub nested_is : {X : Type 0} (rows : ℕ → Env X → List X) (ts : List (Step X)) (placed : List ℕ)
+    (env : Env X)
+    → Inside (step_items ts) env → Distinct (step_items ts) → Apart placed (step_items ts)
+    → AreSteps rows placed ts
+    → SameTally (nested ts env) (filter (kept ts) (product rows (step_items ts) env))
 nested_is rows [] placed env inside distinct apart steps = record { each = λ f. refl }
 nested_is rows (t ∷ ts) placed env inside distinct apart steps = record {
   each = λ f.
       tally-flat_map f _ (t.walk env)
       ∙ (steps.0.walks env inside.0).each _
       ∙ tally-filter _ (λ x. t.used (place env t.item x)) (rows t.item env)
-      ∙ tally_agree _ _ (rows t.item env) (all_always _ (rows t.item env) (λ x. one_row rows f t ts placed env distinct.0 (apart_step t.item placed (step_items ts) distinct.0 apart) steps.0 x (nested_is rows ts (t.item ∷ placed) (place env t.item x) (inside_place env t.item x (step_items ts) inside.1) distinct.1 (apart_step t.item placed (step_items ts) distinct.0 apart) steps.1)))
+      ∙ tally_agree _ _ (rows t.item env)
+      (all_always _ (rows t.item env)
+      (λ x. one_row rows f t ts placed env distinct.0
+      (apart_step t.item placed (step_items ts) distinct.0 apart) steps.0 x
+      (nested_is rows ts (t.item ∷ placed) (place env t.item x)
+      (inside_place env t.item x (step_items ts) inside.1) distinct.1
+      (apart_step t.item placed (step_items ts) distinct.0 apart) steps.1)))
       ∙ sym (tally-flat_map (λ a. cond (kept (t ∷ ts) a) (f a) 0) _ (rows t.item env))
       ∙ sym (tally-filter f (kept (t ∷ ts)) (product rows (step_items (t ∷ ts)) env));
 }
 
 -- what is kept depends on the placed items and the block's own alone
-pub kept_looks : {X : Type 0} (rows : ℕ → Env X → List X) (ts : List (Step X)) (placed : List ℕ) (env a : Env X) → AreSteps rows placed ts → Agree (step_items ts) env a → Agree placed env a → kept ts a ≡ kept ts env
+pub kept_looks : {X : Type 0} (rows : ℕ → Env X → List X) (ts : List (Step X)) (placed : List ℕ)
+    (env a : Env X)
+    → AreSteps rows placed ts → Agree (step_items ts) env a → Agree placed env a
+    → kept ts a ≡ kept ts env
 kept_looks rows [] placed env a steps h k = refl
 kept_looks rows (t ∷ ts) placed env a steps h k =
-    rw (steps.0.used_looks env a (h.0, k), steps.0.test_looks env a (h.0, k), kept_looks rows ts (t.item ∷ placed) env a steps.1 h.1 (h.0, k)) refl
+    rw (
+      steps.0.used_looks env a (h.0, k),
+      steps.0.test_looks env a (h.0, k),
+      kept_looks rows ts (t.item ∷ placed) env a steps.1 h.1 (h.0, k),
+    ) refl
 
-pub all_reorders : {free : ℕ → Bool} (P : ℕ → Type 0) (is js : List ℕ) → Rearranges free is js → AllByRecursion P js → AllByRecursion P is
+pub all_reorders : {free : ℕ → Bool} (P : ℕ → Type 0) (is js : List ℕ) → Rearranges free is js
+    → AllByRecursion P js → AllByRecursion P is
 all_reorders P is js (same items) h = h
 all_reorders P is js (next i xs ys r) h = (h.0, all_reorders P xs ys r h.1)
 all_reorders P is js (swapped i j xs n _ _) h = (h.1.0, (h.0, h.1.1))
 all_reorders P is js (after xs ys zs r s) h = all_reorders P xs ys r (all_reorders P ys zs s h)
 
-pub distinct_reorders : {free : ℕ → Bool} (is js : List ℕ) → Rearranges free is js → Distinct js → Distinct is
+pub distinct_reorders : {free : ℕ → Bool} (is js : List ℕ) → Rearranges free is js → Distinct js
+    → Distinct is
 distinct_reorders is js (same items) h = h
-distinct_reorders is js (next i xs ys r) h = (all_reorders _ xs ys r h.0, distinct_reorders xs ys r h.1)
+distinct_reorders is js (next i xs ys r) h =
+    (all_reorders _ xs ys r h.0, distinct_reorders xs ys r h.1)
 distinct_reorders is js (swapped i j xs n _ _) h = (((λ e. n (sym e)), h.1.0), (h.0.1, h.1.1))
-distinct_reorders is js (after xs ys zs r s) h = distinct_reorders xs ys r (distinct_reorders ys zs s h)
+distinct_reorders is js (after xs ys zs r s) h =
+    distinct_reorders xs ys r (distinct_reorders ys zs s h)
 
-two_sums : {X : Type 0} (rows : ℕ → Env X → List X) (i j : ℕ) (is : List ℕ) (f : Env X → ℕ) (env : Env X) → ((e : Env X) → rows j e ≡ rows j env) → tally f (product rows (i ∷ j ∷ is) env) ≡ tally (λ x. tally (λ y. tally f (product rows is (place (place env i x) j y))) (rows j env)) (rows i env)
-two_sums rows i j is f env free = tally-flat_map f _ (rows i env) ∙ tally_same _ _ (rows i env) (λ x. tally-flat_map f _ (rows j (place env i x)) ∙ ap (tally (λ y. tally f (product rows is (place (place env i x) j y)))) (free (place env i x)))
+two_sums : {X : Type 0} (rows : ℕ → Env X → List X) (i j : ℕ) (is : List ℕ) (f : Env X → ℕ)
+    (env : Env X)
+    → ((e : Env X) → rows j e ≡ rows j env)
+    → tally f (product rows (i ∷ j ∷ is) env)
+    ≡ tally (λ x. tally (λ y. tally f (product rows is (place (place env i x) j y))) (rows j env))
+    (rows i env)
+two_sums rows i j is f env free =
+    tally-flat_map f _ (rows i env)
+    ∙ tally_same _ _ (rows i env)
+    (λ x. tally-flat_map f _ (rows j (place env i x))
+    ∙ ap (tally (λ y. tally f (product rows is (place (place env i x) j y))))
+    (free (place env i x)))
 
 -- in another order of free items there are the same assignments
-pub product_reorders : {X : Type 0} {free : ℕ → Bool} (rows : ℕ → Env X → List X) → AreFree free rows → (items others : List ℕ) → Rearranges free items others → (f : Env X → ℕ) (env : Env X) → tally f (product rows items env) ≡ tally f (product rows others env)
+pub product_reorders : {X : Type 0} {free : ℕ → Bool} (rows : ℕ → Env X → List X)
+    → AreFree free rows → (items others : List ℕ) → Rearranges free items others
+    → (f : Env X → ℕ) (env : Env X)
+    → tally f (product rows items env) ≡ tally f (product rows others env)
 product_reorders rows free items others (same is) f env = refl
-product_reorders rows free items others (next i is js r) f env = tally-flat_map f _ (rows i env) ∙ tally_same _ _ (rows i env) (λ x. product_reorders rows free is js r f (place env i x)) ∙ sym (tally-flat_map f _ (rows i env))
+product_reorders rows free items others (next i is js r) f env =
+    tally-flat_map f _ (rows i env)
+    ∙ tally_same _ _ (rows i env) (λ x. product_reorders rows free is js r f (place env i x))
+    ∙ sym (tally-flat_map f _ (rows i env))
 product_reorders rows free items others (swapped i j is n fi fj) f env =
     two_sums rows i j is f env (free j fj env)
-    ∙ tally_exchange (λ x y. tally f (product rows is (place (place env i x) j y))) (rows i env) (rows j env)
-    ∙ tally_same _ _ (rows j env) (λ y. tally_same _ _ (rows i env) (λ x. ap (λ e. tally f (product rows is e)) (set_exchange env i j (Some x) (Some y) n)))
+    ∙ tally_exchange (λ x y. tally f (product rows is (place (place env i x) j y))) (rows i env)
+    (rows j env)
+    ∙ tally_same _ _ (rows j env)
+    (λ y. tally_same _ _ (rows i env)
+    (λ x. ap (λ e. tally f (product rows is e)) (set_exchange env i j (Some x) (Some y) n)))
     ∙ sym (two_sums rows j i is f env (free i fi env))
-product_reorders rows free items others (after is js ks r s) f env = product_reorders rows free is js r f env ∙ product_reorders rows free js ks s f env
+product_reorders rows free items others (after is js ks r s) f env =
+    product_reorders rows free is js r f env ∙ product_reorders rows free js ks s f env
 
 -- in any order of the items
-pub nested_in_order : {X : Type 0} {free : ℕ → Bool} (rows : ℕ → Env X → List X) → AreFree free rows → (ts : List (Step X)) (order placed : List ℕ) (env : Env X) → Rearranges free (step_items ts) order → Inside order env → Distinct order → Apart placed order → AreSteps rows placed ts → SameTally (nested ts env) (filter (kept ts) (product rows order env))
+pub nested_in_order : {X : Type 0} {free : ℕ → Bool} (rows : ℕ → Env X → List X) → AreFree free rows
+    → (ts : List (Step X)) (order placed : List ℕ) (env : Env X)
+    → Rearranges free (step_items ts) order → Inside order env → Distinct order → Apart placed order
+    → AreSteps rows placed ts
+    → SameTally (nested ts env) (filter (kept ts) (product rows order env))
 nested_in_order rows free ts order placed env re inside distinct apart steps = record {
   each = λ f.
-      (nested_is rows ts placed env (all_reorders _ _ _ re inside) (distinct_reorders _ _ re distinct) (all_map _ _ placed (λ j n. all_reorders _ _ _ re n) apart) steps).each f
-      ∙ (SameTally-filter (kept ts) _ _ (record { each = λ g. product_reorders rows free (step_items ts) order re g env })).each f;
+      (nested_is rows ts placed env (all_reorders _ _ _ re inside)
+      (distinct_reorders _ _ re distinct)
+      (all_map _ _ placed (λ j n. all_reorders _ _ _ re n) apart) steps).each f
+      ∙ (SameTally-filter (kept ts) _ _
+      (record { each = λ g. product_reorders rows free (step_items ts) order re g env })).each f;
 }
 
-flat_map_on : {X Y : Type 0} (g h : X → List Y) (xs : List X) → AllByRecursion (λ x. SameTally (g x) (h x)) xs → SameTally (flat_map g xs) (flat_map h xs)
-flat_map_on g h xs k = record { each = λ f. tally-flat_map f g xs ∙ tally_agree _ _ xs (all_map _ _ xs (λ x s. s.each f) k) ∙ sym (tally-flat_map f h xs) }
+flat_map_on : {X Y : Type 0} (g h : X → List Y) (xs : List X)
+    → AllByRecursion (λ x. SameTally (g x) (h x)) xs → SameTally (flat_map g xs) (flat_map h xs)
+flat_map_on g h xs k =
+    record {
+      each = λ f. tally-flat_map f g xs
+          ∙ tally_agree _ _ xs (all_map _ _ xs (λ x s. s.each f) k) ∙ sym (tally-flat_map f h xs);
+    }
 
 and_implied : (b k : Bool) → (k ≡ true → b ≡ true) → (b && k) ≡ k
 and_implied true k h = refl
@@ -109,20 +198,38 @@ not_both : (c k m : Bool) → (c ≡ true → k ≡ true) → k ≡ m → m ≡ 
 not_both true k m h e f = absurd (let t : k ≡ true = h refl in cc)
 not_both false k m h e f = refl
 
--- the Block law: over the assignments G of all items to its left, the nested walks of a block, in any order of its items, are a permutation of
--- the extensions on which the block's conjuncts hold, with such members left out as no choice to the right completes
-pub block_law : {X : Type 0} {free : ℕ → Bool} (rows : ℕ → Env X → List X) → AreFree free rows → (cs : List (Env X → Bool)) (block : Env X → Bool) (ts : List (Step X)) (order left : List ℕ) (G : List (Env X)) → Rearranges free (step_items ts) order → AllByRecursion (Inside order) G → Distinct order → Apart left order → AreSteps rows left ts → ((a : Env X) → kept ts a ≡ true → block a ≡ true) → ((a : Env X) → all_hold cs a ≡ true → kept ts a ≡ true) → IsPartOf (order ++ left) cs (flat_map (nested ts) G) (flat_map (λ g. filter block (product rows order g)) G)
-block_law {X} rows free cs block ts order left G re inside distinct apart steps settles sound = record {
-  stays = kept ts;
-  same = record {
-    each = λ f.
-        (flat_map_on (nested ts) (λ g. filter (kept ts) (product rows order g)) G (all_map _ _ G (λ g h. nested_in_order rows free ts order left g re h distinct apart steps) inside)).each f
-        ∙ ap (tally f) (flat_map_same _ _ G (λ g. sym (filter-filter block (kept ts) (product rows order g) ∙ filter_agree _ _ (λ a. and_implied (block a) (kept ts a) (settles a)) (product rows order g))) ∙ sym (filter-flat_map (kept ts) (λ g. filter block (product rows order g)) G));
-  };
-  left_out = λ h e a agrees.
-      not_both (all_hold cs a) (kept ts a) (kept ts h) (sound a)
-      (kept_looks rows ts left h a steps (all_reorders _ _ _ re (agree_first order left h a agrees)) (agree_second order left h a agrees)) e;
-}
+-- the Block law: over the assignments G of all items to its left, the nested walks of a block, in
+-- any order of its items, are a permutation of the extensions on which the block's conjuncts hold,
+-- with such members left out as no choice to the right completes
+pub block_law : {X : Type 0} {free : ℕ → Bool} (rows : ℕ → Env X → List X) → AreFree free rows
+    → (cs : List (Env X → Bool)) (block : Env X → Bool) (ts : List (Step X)) (order left : List ℕ)
+    (G : List (Env X))
+    → Rearranges free (step_items ts) order → AllByRecursion (Inside order) G → Distinct order
+    → Apart left order → AreSteps rows left ts → ((a : Env X) → kept ts a ≡ true → block a ≡ true)
+    → ((a : Env X) → all_hold cs a ≡ true → kept ts a ≡ true)
+    → IsPartOf (order ++ left) cs (flat_map (nested ts) G)
+    (flat_map (λ g. filter block (product rows order g)) G)
+block_law {X} rows free cs block ts order left G re inside distinct apart steps settles sound =
+    record {
+      stays = kept ts;
+      same = record {
+        each = λ f.
+            (flat_map_on (nested ts) (λ g. filter (kept ts) (product rows order g)) G
+            (all_map _ _ G
+            (λ g h. nested_in_order rows free ts order left g re h distinct apart steps) inside)).each f
+            ∙ ap (tally f)
+            (flat_map_same _ _ G
+            (λ g. sym
+            (filter-filter block (kept ts) (product rows order g)
+            ∙ filter_agree _ _ (λ a. and_implied (block a) (kept ts a) (settles a))
+            (product rows order g)))
+            ∙ sym (filter-flat_map (kept ts) (λ g. filter block (product rows order g)) G));
+      };
+      left_out = λ h e a agrees.
+          not_both (all_hold cs a) (kept ts a) (kept ts h) (sound a)
+          (kept_looks rows ts left h a steps (all_reorders _ _ _ re (agree_first order left h a agrees))
+          (agree_second order left h a agrees)) e;
+    }
 
 alike : (a b : Bool) → (a ≡ true → b ≡ true) → (b ≡ true → a ≡ true) → a ≡ b
 alike true b f g = sym (f refl)
@@ -130,7 +237,16 @@ alike false true f g = g refl
 alike false false f g = refl
 
 -- T4.3: one block of all items, from the one empty assignment
-pub join_law : {X : Type 0} {free : ℕ → Bool} (rows : ℕ → Env X → List X) → AreFree free rows → (cs : List (Env X → Bool)) (ts : List (Step X)) (order : List ℕ) (env : Env X) → Rearranges free (step_items ts) order → Inside order env → Distinct order → AreSteps rows [] ts → ((a : Env X) → kept ts a ≡ true → all_hold cs a ≡ true) → ((a : Env X) → all_hold cs a ≡ true → kept ts a ≡ true) → SameTally (nested ts env) (filter (all_hold cs) (product rows order env))
+pub join_law : {X : Type 0} {free : ℕ → Bool} (rows : ℕ → Env X → List X) → AreFree free rows
+    → (cs : List (Env X → Bool)) (ts : List (Step X)) (order : List ℕ) (env : Env X)
+    → Rearranges free (step_items ts) order → Inside order env → Distinct order
+    → AreSteps rows [] ts → ((a : Env X) → kept ts a ≡ true → all_hold cs a ≡ true)
+    → ((a : Env X) → all_hold cs a ≡ true → kept ts a ≡ true)
+    → SameTally (nested ts env) (filter (all_hold cs) (product rows order env))
 join_law rows free cs ts order env re inside distinct steps settles sound = record {
-  each = λ f. (nested_in_order rows free ts order [] env re inside distinct tt steps).each f ∙ ap (tally f) (filter_agree _ _ (λ a. alike (kept ts a) (all_hold cs a) (settles a) (sound a)) (product rows order env));
+  each =
+      λ f. (nested_in_order rows free ts order [] env re inside distinct tt steps).each f
+      ∙ ap (tally f)
+      (filter_agree _ _ (λ a. alike (kept ts a) (all_hold cs a) (settles a) (sound a))
+      (product rows order env));
 }

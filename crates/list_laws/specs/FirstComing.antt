@@ -11,7 +11,8 @@ has E (y ∷ ys) x = E y x || has E ys x
 -- each element at its first coming, and none that is the same as one of `seen`
 abbrev pub keep_first : {X : Type 0} → (X → X → Bool) → List X → List X → List X
 keep_first E seen [] = []
-keep_first E seen (x ∷ xs) = cond (has E seen x) (keep_first E seen xs) (x ∷ keep_first E (x ∷ seen) xs)
+keep_first E seen (x ∷ xs) =
+    cond (has E seen x) (keep_first E seen xs) (x ∷ keep_first E (x ∷ seen) xs)
 
 -- x is one of the rows, and the only one of them that is the same
 pub record IsOnce {X : Type 0} (E : X → X → Bool) (rows : List X) (x : X) : Type 0 where

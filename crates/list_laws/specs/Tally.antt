@@ -5,6 +5,7 @@ abbrev pub tally : {X : Type 0} → (X → ℕ) → List X → ℕ
 tally f [] = 0
 tally f (x ∷ xs) = f x + tally f xs
 
--- each holds what the other does, as often, in some order: whatever the elements weigh, both weigh the same
+-- each holds what the other does, as often, in some order: whatever the elements weigh, both weigh
+-- the same
 pub record SameTally {X : Type 0} (xs ys : List X) : Type 0 where
   pub each : (f : X → ℕ) → tally f xs ≡ tally f ys

@@ -3,7 +3,8 @@ use Rattle.std.specs.declared.cmp.Ordering.{Ordering}
 use Rattle.std.specs.declared.cmp.Ordering.TheVariants.{Less, Equal as Ties, Greater}
 use Rattle.std.specs.List.{AllByRecursion}
 use Rattle.std.specs.Cmp.{IsTotalOrder}
-use Rattle.std.proofs.Common.{◌≡◌, refl, List, [], ◌∷◌, ◌++◌, ap, ◌∙◌, Bool, ◌≢◌, ℕ, Option, sym, subst, ◌<◌, true, map, length, slice_get, false, cond, not}
+use Rattle.std.proofs.Common.{◌≡◌, refl, List, [], ◌∷◌, ◌++◌, ap, ◌∙◌, Bool, ◌≢◌, ℕ, Option, sym}
+use Rattle.std.proofs.Common.{subst, ◌<◌, true, map, length, slice_get, false, cond, not}
 use Rattle.std.proofs.lemmas.Cmp.{on_total, then_total, nat_cmp_total}
 use Rattle.list_laws.specs.Order.{Ascends, sort_by}
 use Rattle.list_laws.specs.Nest.{place, nested, Distinct, Inside}
@@ -15,13 +16,15 @@ use Rattle.list_laws.proofs.Orders.{SameTally-sort_by, Ascends-sort_by}
 use Rattle.list_laws.proofs.Tallies.{SameTally-trans}
 use Rattle.list_laws.proofs.Permutations.{IsPermutation-from_tally}
 use Rattle.sql_meaning.specs.Values.{Value}
-use Rattle.sql_meaning.specs.Rows.{Rows, Row}
+use Rattle.sql_meaning.specs.Rows.{Assignment, Row}
 use Rattle.sql_meaning.specs.Statements.{SortKey, Bound, table_of, no_rows, statement_rows}
 use Rattle.sql_meaning.specs.Orders.{key_cmp, by_keys}
 use Rattle.sql_meaning.specs.Schemas.{Schema, IsDatabaseOf}
-use Rattle.sql_meaning.specs.Plans.{Loop, loop_walk, step_of, steps_of, Plan, plan_walks, always, consumed_by}
+use Rattle.sql_meaning.specs.Plans.{Loop, loop_walk, step_of, steps_of, Plan, plan_walks, always}
+use Rattle.sql_meaning.specs.Plans.{consumed_by}
 use Rattle.sql_meaning.specs.Offers.{loop_items, IsDatabase, FitsOffers}
-use Rattle.sql_meaning.specs.OrderState.{Passing, Loses, Leaves, loop_passes, after_passing, state, is_done, backward, directions_after, directions, FitsOrder}
+use Rattle.sql_meaning.specs.OrderState.{Passing, Loses, Leaves, loop_passes, after_passing, state}
+use Rattle.sql_meaning.specs.OrderState.{is_done, backward, directions_after, directions, FitsOrder}
 use Rattle.sql_meaning.specs.Evaluation.{ev}
 use Rattle.sql_meaning.specs.Asked.{Means, uncut}
 use Rattle.sql_meaning.proofs.Plans.{steps_items}
@@ -31,20 +34,24 @@ use Rattle.sql_meaning.proofs.Seeks.{directed_total}
 use Rattle.sql_meaning.proofs.Means.{numbers_distinct, numbers_inside, plan_rows}
 use Rattle.sql_meaning.proofs.Equals.{rows_eq, rows_true, rows_itself}
 
-then_assoc : (a b c : Ordering) → ordering_then a (ordering_then b c) ≡ ordering_then (ordering_then a b) c
+then_assoc : (a b c : Ordering)
+    → ordering_then a (ordering_then b c) ≡ ordering_then (ordering_then a b) c
 then_assoc Less b c = refl
 then_assoc Ties b c = refl
 then_assoc Greater b c = refl
 
-by_append : (params : List Value) (ks ls : List SortKey) (a b : Rows) → by_keys params (ks ++ ls) a b ≡ ordering_then (by_keys params ks a b) (by_keys params ls a b)
+by_append : (params : List Value) (ks ls : List SortKey) (a b : Assignment)
+    → by_keys params (ks ++ ls) a b ≡ ordering_then (by_keys params ks a b) (by_keys params ls a b)
 by_append params [] ls a b = refl
-by_append params (k ∷ ks) ls a b = ap (ordering_then (key_cmp params k a b)) (by_append params ks ls a b) ∙ then_assoc (key_cmp params k a b) (by_keys params ks a b) (by_keys params ls a b)
+by_append params (k ∷ ks) ls a b =
+    ap (ordering_then (key_cmp params k a b)) (by_append params ks ls a b)
+    ∙ then_assoc (key_cmp params k a b) (by_keys params ks a b) (by_keys params ls a b)
 
 append_none : (ks : List SortKey) → ks ++ [] ≡ ks
 append_none [] = refl
 append_none (k ∷ ks) = ap (λ zs. k ∷ zs) (append_none ks)
 
-ascends_always : (params : List Value) (xs : List Rows) → Ascends (by_keys params []) xs
+ascends_always : (params : List Value) (xs : List Assignment) → Ascends (by_keys params []) xs
 ascends_always params [] = tt
 ascends_always params (x ∷ xs) = (all_always _ xs (λ y. refl), ascends_always params xs)
 
@@ -52,59 +59,140 @@ cons_parts : (a b : Bool) (xs ys : List Bool) → a ∷ xs ≡ b ∷ ys → (a �
 cons_parts a b xs ys e = (cc, cc)
 
 -- one loop, by what it leaves
-loop_ordered : (schema : Schema) (database : List (List Row)) (bound : Bound) (params : List Value) (consumed placed : List ℕ) (u : Loop → Rows → Bool) (l : Loop) (ls : List Loop) (env : Rows) (keys left : List SortKey) → AllByRecursion (λ j. j ≢ l.item) (loop_items ls) → IsLoopPassed params env l.item (loop_walk schema database bound params consumed placed l env) keys left → ((x : Option Row) → Ascends (by_keys params left) (nested (steps_of schema database bound params consumed u (l.item ∷ placed) ls) (place env l.item x))) → Ascends (by_keys params keys) (nested (steps_of schema database bound params consumed u placed (l ∷ ls)) env)
+loop_ordered : (schema : Schema) (database : List (List Row)) (bound : Bound) (params : List Value)
+    (consumed placed : List ℕ) (u : Loop → Assignment → Bool) (l : Loop) (ls : List Loop)
+    (env : Assignment) (keys left : List SortKey)
+    → AllByRecursion (λ j. j ≢ l.item) (loop_items ls)
+    → IsLoopPassed params env l.item
+    (loop_walk schema database bound params consumed placed l env) keys left
+    → ((x : Option Row)
+    → Ascends (by_keys params left)
+    (nested (steps_of schema database bound params consumed u (l.item ∷ placed) ls)
+    (place env l.item x)))
+    → Ascends (by_keys params keys)
+    (nested (steps_of schema database bound params consumed u placed (l ∷ ls)) env)
 loop_ordered schema database bound params consumed placed u l ls env keys [] n i later =
-    subst (λ (ks : List SortKey). Ascends (by_keys params ks) (nested (steps_of schema database bound params consumed u placed (l ∷ ls)) env)) (sym (i.is ∙ append_none i.passed))
-    (nested_ends params i.passed (step_of schema database bound params consumed placed l (u l)) (steps_of schema database bound params consumed u (l.item ∷ placed) ls) env
-    (subst (AllByRecursion (λ j. j ≢ l.item)) (sym (steps_items schema database bound params consumed u (l.item ∷ placed) ls)) n) i.own i.rises)
+    subst
+    (λ (ks : List SortKey). Ascends (by_keys params ks)
+    (nested (steps_of schema database bound params consumed u placed (l ∷ ls)) env))
+    (sym (i.is ∙ append_none i.passed))
+    (nested_ends params i.passed (step_of schema database bound params consumed placed l (u l))
+    (steps_of schema database bound params consumed u (l.item ∷ placed) ls) env
+    (subst (AllByRecursion (λ j. j ≢ l.item))
+    (sym (steps_items schema database bound params consumed u (l.item ∷ placed) ls)) n) i.own
+    i.rises)
 loop_ordered schema database bound params consumed placed u l ls env keys (m ∷ ms) n i later =
-    ascends_same (then_cmp (by_keys params i.passed) (by_keys params (m ∷ ms))) (by_keys params keys) (nested (steps_of schema database bound params consumed u placed (l ∷ ls)) env) (λ a b. ap (λ ks. by_keys params ks a b) i.is ∙ by_append params i.passed (m ∷ ms) a b)
-    (nested_passes params i.passed (m ∷ ms) (step_of schema database bound params consumed placed l (u l)) (steps_of schema database bound params consumed u (l.item ∷ placed) ls) env
-    (subst (AllByRecursion (λ j. j ≢ l.item)) (sym (steps_items schema database bound params consumed u (l.item ∷ placed) ls)) n) i.own (i.strictly (λ e. cc)) later)
+    ascends_same (then_cmp (by_keys params i.passed) (by_keys params (m ∷ ms)))
+    (by_keys params keys)
+    (nested (steps_of schema database bound params consumed u placed (l ∷ ls)) env)
+    (λ a b. ap (λ ks. by_keys params ks a b) i.is ∙ by_append params i.passed (m ∷ ms) a b)
+    (nested_passes params i.passed (m ∷ ms)
+    (step_of schema database bound params consumed placed l (u l))
+    (steps_of schema database bound params consumed u (l.item ∷ placed) ls) env
+    (subst (AllByRecursion (λ j. j ≢ l.item))
+    (sym (steps_items schema database bound params consumed u (l.item ∷ placed) ls)) n) i.own
+    (i.strictly (λ e. cc)) later)
 
-passing_case : (schema : Schema) (database : List (List Row)) (bound : Bound) (params : List Value) (consumed placed : List ℕ) (u : Loop → Rows → Bool) (l : Loop) (ls : List Loop) (env : Rows) (keys : List SortKey) → IsDatabase schema bound database → l.item < length env → AllByRecursion (λ j. j ≢ l.item) (loop_items ls) → ((left : List SortKey) → is_done (state schema bound ls left) ≡ true → map (λ l. l.reverse) ls ≡ directions schema bound ls left → (x : Option Row) → Ascends (by_keys params left) (nested (steps_of schema database bound params consumed u (l.item ∷ placed) ls) (place env l.item x))) → (p : Passing) → loop_passes schema bound l keys ≡ p → is_done (after_passing p (state schema bound ls)) ≡ true → l.reverse ∷ map (λ l. l.reverse) ls ≡ directions_after p (directions schema bound ls) → Ascends (by_keys params keys) (nested (steps_of schema database bound params consumed u placed (l ∷ ls)) env)
+passing_case : (schema : Schema) (database : List (List Row)) (bound : Bound) (params : List Value)
+    (consumed placed : List ℕ) (u : Loop → Assignment → Bool) (l : Loop) (ls : List Loop)
+    (env : Assignment) (keys : List SortKey)
+    → IsDatabase schema bound database → l.item < length env
+    → AllByRecursion (λ j. j ≢ l.item) (loop_items ls)
+    → ((left : List SortKey) → is_done (state schema bound ls left) ≡ true
+    → map (λ l. l.reverse) ls ≡ directions schema bound ls left → (x : Option Row)
+    → Ascends (by_keys params left)
+    (nested (steps_of schema database bound params consumed u (l.item ∷ placed) ls)
+    (place env l.item x)))
+    → (p : Passing) → loop_passes schema bound l keys ≡ p
+    → is_done (after_passing p (state schema bound ls)) ≡ true
+    → l.reverse ∷ map (λ l. l.reverse) ls ≡ directions_after p (directions schema bound ls)
+    → Ascends (by_keys params keys)
+    (nested (steps_of schema database bound params consumed u placed (l ∷ ls)) env)
 passing_case schema database bound params consumed placed u l ls env keys valid lt n ih Loses e h d = absurd (cc)
 passing_case schema database bound params consumed placed u l ls env keys valid lt n ih (Leaves left out) e h d =
-    let parts = cons_parts l.reverse (backward out) (map (λ l. l.reverse) ls) (directions schema bound ls left) d in
-    loop_ordered schema database bound params consumed placed u l ls env keys left n (loop_passed schema database bound params consumed placed l env keys left out valid lt parts.0 e) (ih left h parts.1)
+    let parts =
+    cons_parts l.reverse (backward out) (map (λ l. l.reverse) ls)
+    (directions schema bound ls left) d in
+    loop_ordered schema database bound params consumed placed u l ls env keys left n
+    (loop_passed schema database bound params consumed placed l env keys left out valid lt parts.0
+    e) (ih left h parts.1)
 
--- T4.4: loops whose state is Done, walked in their directions, give their nested walks in order by the keys, with no sort
-pub nested_ordered : (schema : Schema) (database : List (List Row)) (bound : Bound) (params : List Value) (consumed placed : List ℕ) (u : Loop → Rows → Bool) (loops : List Loop) (keys : List SortKey) (env : Rows) → IsDatabase schema bound database → Inside (loop_items loops) env → Distinct (loop_items loops) → is_done (state schema bound loops keys) ≡ true → map (λ l. l.reverse) loops ≡ directions schema bound loops keys → Ascends (by_keys params keys) (nested (steps_of schema database bound params consumed u placed loops) env)
+-- T4.4: loops whose state is Done, walked in their directions, give their nested walks in order by
+-- the keys, with no sort
+pub nested_ordered : (schema : Schema) (database : List (List Row)) (bound : Bound)
+    (params : List Value) (consumed placed : List ℕ) (u : Loop → Assignment → Bool)
+    (loops : List Loop) (keys : List SortKey) (env : Assignment)
+    → IsDatabase schema bound database → Inside (loop_items loops) env → Distinct (loop_items loops)
+    → is_done (state schema bound loops keys) ≡ true
+    → map (λ l. l.reverse) loops ≡ directions schema bound loops keys
+    → Ascends (by_keys params keys)
+    (nested (steps_of schema database bound params consumed u placed loops) env)
 nested_ordered schema database bound params consumed placed u loops [] env valid inside distinct h d = ascends_always params _
 nested_ordered schema database bound params consumed placed u [] (k ∷ ks) env valid inside distinct h d = absurd (cc)
 nested_ordered schema database bound params consumed placed u (l ∷ ls) (k ∷ ks) env valid inside distinct h d =
-    passing_case schema database bound params consumed placed u l ls env (k ∷ ks) valid inside.0 distinct.0 (λ left g e x. nested_ordered schema database bound params consumed (l.item ∷ placed) u ls left (place env l.item x) valid (inside_place env l.item x (loop_items ls) inside.1) distinct.1 g e) (loop_passes schema bound l (k ∷ ks)) refl h d
+    passing_case schema database bound params consumed placed u l ls env
+    (k ∷ ks) valid inside.0 distinct.0
+    (λ left g e x. nested_ordered schema database bound params consumed (l.item ∷ placed) u ls left
+    (place env l.item x) valid (inside_place env l.item x (loop_items ls) inside.1) distinct.1 g e)
+    (loop_passes schema bound l (k ∷ ks)) refl h d
 
 -- the order of the keys is a total preorder
 pub by_keys_total : (params : List Value) (ks : List SortKey) → IsTotalOrder (by_keys params ks)
 by_keys_total params [] = on_total (λ a. 0) nat_cmp_total
-by_keys_total params (k ∷ ks) = then_total (on_total (λ a. ev a params k.expr) (directed_total k.falling (value_cmp_total k.collation))) (by_keys_total params ks)
+by_keys_total params (k ∷ ks) =
+    then_total
+    (on_total (λ a. ev a params k.expr) (directed_total k.falling (value_cmp_total k.collation)))
+    (by_keys_total params ks)
 
-database_for : (schema : Schema) (bound : Bound) (database : List (List Row)) → IsDatabaseOf schema database → IsDatabase schema bound database
+database_for : (schema : Schema) (bound : Bound) (database : List (List Row))
+    → IsDatabaseOf schema database → IsDatabase schema bound database
 database_for schema bound database valid = record {
   rising = λ item. valid.rising (table_of (slice_get bound.items item));
-  aliased = λ item. all_map _ _ _ (λ row c. c.alias) (valid.conforms (table_of (slice_get bound.items item)));
+  aliased =
+      λ item. all_map _ _ _ (λ row c. c.alias)
+      (valid.conforms (table_of (slice_get bound.items item)));
 }
 
-uncut_same : (schema : Schema) (database : List (List Row)) (plan : Plan) (params : List Value) (b : Bool) → SameTally (cond b (sort_by (by_keys params plan.bound.keys) (plan_walks schema database plan params)) (plan_walks schema database plan params)) (plan_walks schema database plan params)
-uncut_same schema database plan params true = SameTally-sort_by (by_keys params plan.bound.keys) (plan_walks schema database plan params)
+uncut_same : (schema : Schema) (database : List (List Row)) (plan : Plan) (params : List Value)
+    (b : Bool)
+    → SameTally
+    (cond b (sort_by (by_keys params plan.bound.keys) (plan_walks schema database plan params))
+    (plan_walks schema database plan params)) (plan_walks schema database plan params)
+uncut_same schema database plan params true =
+    SameTally-sort_by (by_keys params plan.bound.keys) (plan_walks schema database plan params)
 uncut_same schema database plan params false = record { each = λ f. refl }
 
-uncut_ordered : (schema : Schema) (database : List (List Row)) (plan : Plan) (params : List Value) → IsDatabase schema plan.bound database → FitsOffers schema plan → FitsOrder schema plan → (b : Bool) → plan.sort ≡ b → (d : Bool) → is_done (state schema plan.bound plan.loops plan.bound.keys) ≡ d → Ascends (by_keys params plan.bound.keys) (cond b (sort_by (by_keys params plan.bound.keys) (plan_walks schema database plan params)) (plan_walks schema database plan params))
-uncut_ordered schema database plan params valid fits order true e d g = Ascends-sort_by (by_keys_total params plan.bound.keys) (plan_walks schema database plan params)
+uncut_ordered : (schema : Schema) (database : List (List Row)) (plan : Plan) (params : List Value)
+    → IsDatabase schema plan.bound database → FitsOffers schema plan → FitsOrder schema plan
+    → (b : Bool) → plan.sort ≡ b → (d : Bool)
+    → is_done (state schema plan.bound plan.loops plan.bound.keys) ≡ d
+    → Ascends (by_keys params plan.bound.keys)
+    (cond b (sort_by (by_keys params plan.bound.keys) (plan_walks schema database plan params))
+    (plan_walks schema database plan params))
+uncut_ordered schema database plan params valid fits order true e d g =
+    Ascends-sort_by (by_keys_total params plan.bound.keys) (plan_walks schema database plan params)
 uncut_ordered schema database plan params valid fits order false e true g =
-    nested_ordered schema database plan.bound params (consumed_by plan.loops) [] (λ l. always) plan.loops plan.bound.keys (no_rows plan.bound) valid
-    (all_reorders _ _ _ fits.once (numbers_inside plan.bound)) (distinct_reorders _ _ fits.once (numbers_distinct 0 (length plan.bound.items))) g (order.reverses g)
-uncut_ordered schema database plan params valid fits order false e false g = absurd (let no : false ≡ true = sym e ∙ order.sorts ∙ ap not g in cc)
+    nested_ordered schema database plan.bound params (consumed_by plan.loops) []
+    (λ l. always) plan.loops plan.bound.keys (no_rows plan.bound) valid
+    (all_reorders _ _ _ fits.once (numbers_inside plan.bound))
+    (distinct_reorders _ _ fits.once (numbers_distinct 0 (length plan.bound.items))) g
+    (order.reverses g)
+uncut_ordered schema database plan params valid fits order false e false g =
+    absurd (let no : false ≡ true = sym e ∙ order.sorts ∙ ap not g in cc)
 
 -- T4.5: a plan whose loops are offers, with D16's flags, means its statement
-pub means_from_offers : (schema : Schema) (plan : Plan) → FitsOffers schema plan → FitsOrder schema plan → Means schema plan
-
+pub means_from_offers : (schema : Schema) (plan : Plan) → FitsOffers schema plan
+    → FitsOrder schema plan → Means schema plan
 unfolding Means
-
 means_from_offers schema plan fits order = λ database valid params values.
     let here = database_for schema plan.bound database valid in
     record {
-      permutes = IsPermutation-from_tally rows_eq rows_true rows_itself (uncut schema database plan params) (statement_rows plan.bound database params) (SameTally-trans _ _ _ (uncut_same schema database plan params plan.sort) (plan_rows schema plan fits database here params));
-      ordered = uncut_ordered schema database plan params here fits order plan.sort refl (is_done (state schema plan.bound plan.loops plan.bound.keys)) refl;
+      permutes =
+          IsPermutation-from_tally rows_eq rows_true rows_itself (uncut schema database plan params)
+          (statement_rows plan.bound database params)
+          (SameTally-trans _ _ _ (uncut_same schema database plan params plan.sort)
+          (plan_rows schema plan fits database here params));
+      ordered =
+          uncut_ordered schema database plan params here fits order plan.sort refl
+          (is_done (state schema plan.bound plan.loops plan.bound.keys)) refl;
     }

@@ -1,8 +1,9 @@
 use Rattle.std.specs.Cmp.{signed_Decides}
-use Rattle.std.proofs.Common.{Bool, true, false, ◌&&◌, List, [], ◌∷◌, Option, Some, None, ◌≡◌, refl, ap₂, ap, ℤ, int_eq, ℕ, ◌==◌}
+use Rattle.std.proofs.Common.{Bool, true, false, ◌&&◌, List, [], ◌∷◌, Option, Some, None, ◌≡◌, refl}
+use Rattle.std.proofs.Common.{ap₂, ap, ℤ, int_eq, ℕ, ◌==◌}
 use Rattle.std.proofs.lemmas.Bool.{eq-eqb, eqb-true}
 use Rattle.sql_meaning.specs.Values.{Value, Null, Int, Dec, Text, Blob}
-use Rattle.sql_meaning.specs.Rows.{Row, Rows}
+use Rattle.sql_meaning.specs.Rows.{Row, Assignment}
 use Rattle.sql_meaning.proofs.Offers.{and_left, and_right, both_true}
 
 -- a test of equality for assignments
@@ -18,23 +19,29 @@ option_eq E None (Some y) = false
 option_eq E (Some x) None = false
 option_eq E (Some x) (Some y) = E x y
 
-list_true : {X : Type 0} (E : X → X → Bool) → ((x y : X) → E x y ≡ true → x ≡ y) → (xs ys : List X) → list_eq E xs ys ≡ true → xs ≡ ys
+list_true : {X : Type 0} (E : X → X → Bool) → ((x y : X) → E x y ≡ true → x ≡ y) → (xs ys : List X)
+    → list_eq E xs ys ≡ true → xs ≡ ys
 list_true E f [] [] h = refl
 list_true E f [] (y ∷ ys) h = absurd (cc)
 list_true E f (x ∷ xs) [] h = absurd (cc)
-list_true E f (x ∷ xs) (y ∷ ys) h = ap₂ (λ z zs. z ∷ zs) (f x y (and_left _ (list_eq E xs ys) h)) (list_true E f xs ys (and_right (E x y) _ h))
+list_true E f (x ∷ xs) (y ∷ ys) h =
+    ap₂ (λ z zs. z ∷ zs) (f x y (and_left _ (list_eq E xs ys) h))
+    (list_true E f xs ys (and_right (E x y) _ h))
 
-list_itself : {X : Type 0} (E : X → X → Bool) → ((x : X) → E x x ≡ true) → (xs : List X) → list_eq E xs xs ≡ true
+list_itself : {X : Type 0} (E : X → X → Bool) → ((x : X) → E x x ≡ true) → (xs : List X)
+    → list_eq E xs xs ≡ true
 list_itself E f [] = refl
 list_itself E f (x ∷ xs) = both_true _ _ (f x) (list_itself E f xs)
 
-option_true : {X : Type 0} (E : X → X → Bool) → ((x y : X) → E x y ≡ true → x ≡ y) → (x y : Option X) → option_eq E x y ≡ true → x ≡ y
+option_true : {X : Type 0} (E : X → X → Bool) → ((x y : X) → E x y ≡ true → x ≡ y)
+    → (x y : Option X) → option_eq E x y ≡ true → x ≡ y
 option_true E f None None h = refl
 option_true E f None (Some y) h = absurd (cc)
 option_true E f (Some x) None h = absurd (cc)
 option_true E f (Some x) (Some y) h = ap Some (f x y h)
 
-option_itself : {X : Type 0} (E : X → X → Bool) → ((x : X) → E x x ≡ true) → (x : Option X) → option_eq E x x ≡ true
+option_itself : {X : Type 0} (E : X → X → Bool) → ((x : X) → E x x ≡ true) → (x : Option X)
+    → option_eq E x x ≡ true
 option_itself E f None = refl
 option_itself E f (Some x) = f x
 
@@ -93,16 +100,19 @@ abbrev pub row_eq : Row → Row → Bool
 row_eq x y = int_eq x.rowid y.rowid && list_eq value_eq x.values y.values
 
 row_true : (x y : Row) → row_eq x y ≡ true → x ≡ y
-row_true x y h = ap₂ (λ r vs. record { rowid = r; values = vs }) (int_eq_true x.rowid y.rowid (and_left _ (list_eq value_eq x.values y.values) h)) (list_true value_eq value_true x.values y.values (and_right (int_eq x.rowid y.rowid) _ h))
+row_true x y h =
+    ap₂ (λ r vs. record { rowid = r; values = vs })
+    (int_eq_true x.rowid y.rowid (and_left _ (list_eq value_eq x.values y.values) h))
+    (list_true value_eq value_true x.values y.values (and_right (int_eq x.rowid y.rowid) _ h))
 
 row_itself : (x : Row) → row_eq x x ≡ true
 row_itself x = both_true _ _ (int_eq_itself x.rowid) (list_itself value_eq value_itself x.values)
 
-abbrev pub rows_eq : Rows → Rows → Bool
+abbrev pub rows_eq : Assignment → Assignment → Bool
 rows_eq = list_eq (option_eq (option_eq row_eq))
 
-pub rows_true : (a b : Rows) → rows_eq a b ≡ true → a ≡ b
+pub rows_true : (a b : Assignment) → rows_eq a b ≡ true → a ≡ b
 rows_true a b h = list_true _ (option_true _ (option_true _ row_true)) a b h
 
-pub rows_itself : (a : Rows) → rows_eq a a ≡ true
+pub rows_itself : (a : Assignment) → rows_eq a a ≡ true
 rows_itself a = list_itself _ (option_itself _ (option_itself _ row_itself)) a

@@ -15,23 +15,54 @@ use Rattle.sql_meaning.proofs.Examples.{schema, two, derived_plan}
 use Rattle.sql_meaning.proofs.TermLists.{seek_of_terms}
 use Rattle.sql_meaning.proofs.Asked.{means_from_offers}
 
--- the premises can be met: the plan of the examples that seeks t.a by the derived key, then u.a by the direct conjunct
+-- the premises can be met: the plan of the examples that seeks t.a by the derived key, then u.a by
+-- the direct conjunct
 two_fits : FitsStatement (schema false) two
 two_fits = ((refl, refl, tt, tt), ((refl, refl, tt, tt), tt))
 
 abbrev derived_used : Term
-derived_used = record { column = AtColumn 0; conjunct = None; collation = Binary; kind = Equals (record { expr = Lit (Int (pos 2)); conversion = Some Numeric }) }
+derived_used =
+    record {
+      column = AtColumn 0;
+      conjunct = None;
+      collation = Binary;
+      kind =
+          Equals (record { expr = Lit (Int (pos 2)); conversion = Some Numeric });
+    }
 
 abbrev direct_used : Term
-direct_used = record { column = AtColumn 0; conjunct = Some 0; collation = Binary; kind = Equals (record { expr = Column 0 0; conversion = None }) }
+direct_used =
+    record {
+      column = AtColumn 0;
+      conjunct = Some 0;
+      collation = Binary;
+      kind =
+          Equals (record { expr = Column 0 0; conversion = None });
+    }
 
 plan_fits : FitsOffers (schema false) derived_plan
 plan_fits = record {
   used = λ (l : Loop). cond (l.item == 0) (AllOf (derived_used ∷ [])) (AllOf (direct_used ∷ []));
   once = same (0 ∷ 1 ∷ []);
   offered = (
-    seek_of_terms (schema false) two [] 0 0 false (record { path = IndexSeek 0 (OneKey (record { expr = Lit (Int (pos 2)); conversion = Some Numeric }) ∷ []) None None; used = derived_used ∷ [] }) two_fits refl refl,
-    (seek_of_terms (schema false) two (0 ∷ []) 1 0 false (record { path = IndexSeek 0 (OneKey (record { expr = Column 0 0; conversion = None }) ∷ []) None None; used = direct_used ∷ [] }) two_fits refl refl, tt),
+    seek_of_terms (schema false) two [] 0 0 false
+        (record {
+          path =
+              IndexSeek 0
+              (OneKey (record { expr = Lit (Int (pos 2)); conversion = Some Numeric }) ∷ []) None None;
+          used =
+              derived_used ∷ [];
+        }) two_fits refl refl,
+    (
+      seek_of_terms (schema false) two (0 ∷ []) 1 0 false
+          (record {
+            path =
+                IndexSeek 0 (OneKey (record { expr = Column 0 0; conversion = None }) ∷ []) None None;
+            used =
+                direct_used ∷ [];
+          }) two_fits refl refl,
+      tt,
+    ),
   );
   some = λ e. cc;
   named = (refl, (refl, tt));

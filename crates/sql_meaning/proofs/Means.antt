@@ -1,5 +1,7 @@
 use Rattle.std.specs.List.{slice_get, AllByRecursion}
-use Rattle.std.proofs.Common.{◌≡◌, ℕ, Bool, true, false, cond, not, List, refl, ap, sym, ◌∙◌, [], ◌∷◌, ◌||◌, ◌==◌, ◌++◌, Option, Some, None, inl, inr, ◌&&◌, zero-add, ◌≢◌, suc, zero, subst, ◌+◌, ◌≤◌, arith, ◌<◌, length}
+use Rattle.std.proofs.Common.{◌≡◌, ℕ, Bool, true, false, cond, not, List, refl, ap, sym, ◌∙◌, []}
+use Rattle.std.proofs.Common.{◌∷◌, ◌||◌, ◌==◌, ◌++◌, Option, Some, None, inl, inr, ◌&&◌, zero-add}
+use Rattle.std.proofs.Common.{◌≢◌, suc, zero, subst, ◌+◌, ◌≤◌, arith, ◌<◌, length}
 use Rattle.std.proofs.lemmas.Bool.{eqb-true, eq-eqb}
 use Rattle.std.proofs.lemmas.List.{length-replicate}
 use Rattle.std.proofs.lemmas.List.Elements.{filter_agree}
@@ -8,9 +10,11 @@ use Rattle.list_laws.specs.Tally.{tally, SameTally}
 use Rattle.list_laws.proofs.Lists.{all_map}
 use Rattle.list_laws.proofs.Nests.{join_law, distinct_reorders}
 use Rattle.sql_meaning.specs.Values.{Value}
-use Rattle.sql_meaning.specs.Rows.{Rows, Row}
+use Rattle.sql_meaning.specs.Rows.{Assignment, Row}
 use Rattle.sql_meaning.specs.Schemas.{Schema}
-use Rattle.sql_meaning.specs.Statements.{Bound, is_left, owned_by, is_common, chosen_hold, has_number, no_owner, Conjunct, all_in, is_empty, numbers_from, no_rows, choices, statement_rows}
+use Rattle.sql_meaning.specs.Statements.{Bound, is_left, owned_by, is_common, chosen_hold}
+use Rattle.sql_meaning.specs.Statements.{has_number, no_owner, Conjunct, all_in, is_empty}
+use Rattle.sql_meaning.specs.Statements.{numbers_from, no_rows, choices, statement_rows}
 use Rattle.sql_meaning.specs.Plans.{Loop, steps_of, consumed_by, Plan, always, plan_walks}
 use Rattle.sql_meaning.specs.UsedTerms.{Used, used_holds, Consumes, IsTerm, UsedComes, AllOf, AnyOf}
 use Rattle.sql_meaning.specs.Offers.{IsOffer, AreOffers, loop_items, FitsOffers, IsDatabase}
@@ -18,28 +22,45 @@ use Rattle.sql_meaning.specs.Conjuncts.{may_serve, level_test, common_first, fir
 use Rattle.sql_meaning.specs.Evaluation.{holds}
 use Rattle.sql_meaning.specs.Expressions.{names}
 use Rattle.sql_meaning.proofs.Offers.{and_left, used_from, both_true, consumed_holds, and_right}
-use Rattle.sql_meaning.proofs.Plans.{chosen_weaken, test_from, uses, has_all, same_holds, or_cases, test_at, chosen_from, Ours, nested_used, steps_items, are_steps}
+use Rattle.sql_meaning.proofs.Plans.{chosen_weaken, test_from, uses, has_all, same_holds, or_cases}
+use Rattle.sql_meaning.proofs.Plans.{test_at, chosen_from, Ours, nested_used, steps_items}
+use Rattle.sql_meaning.proofs.Plans.{are_steps}
 use Rattle.sql_meaning.proofs.Terms.{some_is}
 use Rattle.sql_meaning.proofs.Links.{all_at}
 
 -- sound: where all the common conjuncts hold, the used terms and the tests of all loops do
-sound_used : (schema : Schema) (bound : Bound) (params : List Value) (placed : List ℕ) (l : Loop) (used : Loop → Used) (a : Rows) → IsOffer schema bound placed l (used l) → chosen_hold is_common params bound.conjuncts a ≡ true → (b : Bool) → is_left bound l.item ≡ b → cond b true (used_holds a params l.item (used l)) ≡ true
+sound_used : (schema : Schema) (bound : Bound) (params : List Value) (placed : List ℕ) (l : Loop)
+    (used : Loop → Used) (a : Assignment)
+    → IsOffer schema bound placed l (used l) → chosen_hold is_common params bound.conjuncts a ≡ true
+    → (b : Bool) → is_left bound l.item ≡ b
+    → cond b true (used_holds a params l.item (used l)) ≡ true
 sound_used schema bound params placed l used a o h true e = refl
 sound_used schema bound params placed l used a o h false e =
     used_from schema bound params l.item a (used l) o.fits o.comes
-    (chosen_weaken _ _ (λ c t. sym (ap (λ b. cond b (owned_by l.item c.owner) (is_common c)) e) ∙ t) params bound.conjuncts a h)
-    (chosen_weaken _ _ (λ c t. and_left (is_common c) (not (is_left bound l.item)) t) params bound.conjuncts a h)
+    (chosen_weaken _ _
+    (λ c t. sym (ap (λ b. cond b (owned_by l.item c.owner) (is_common c)) e) ∙ t) params
+    bound.conjuncts a h)
+    (chosen_weaken _ _
+    (λ c t. and_left (is_common c) (not (is_left bound l.item)) t) params bound.conjuncts a h)
 
-pub sound : (schema : Schema) (database : List (List Row)) (bound : Bound) (params : List Value) (consumed placed : List ℕ) (loops : List Loop) (used : Loop → Used) (a : Rows) → AreOffers schema bound placed loops used → chosen_hold is_common params bound.conjuncts a ≡ true → kept (steps_of schema database bound params consumed (uses bound params used) placed loops) a ≡ true
+pub sound : (schema : Schema) (database : List (List Row)) (bound : Bound) (params : List Value)
+    (consumed placed : List ℕ) (loops : List Loop) (used : Loop → Used) (a : Assignment)
+    → AreOffers schema bound placed loops used
+    → chosen_hold is_common params bound.conjuncts a ≡ true
+    → kept (steps_of schema database bound params consumed (uses bound params used) placed loops) a
+    ≡ true
 sound schema database bound params consumed placed [] used a o h = refl
 sound schema database bound params consumed placed (l ∷ ls) used a o h =
     both_true _ _ (sound_used schema bound params placed l used a o.0 h (is_left bound l.item) refl)
-    (both_true _ _ (test_from is_common params consumed placed l.item 0 bound.conjuncts a h) (sound schema database bound params consumed (l.item ∷ placed) ls used a o.1 h))
+    (both_true _ _ (test_from is_common params consumed placed l.item 0 bound.conjuncts a h)
+    (sound schema database bound params consumed (l.item ∷ placed) ls used a o.1 h))
 
 -- settled by a path that consumes it
-pub has_append : (n : ℕ) (ms ns : List ℕ) → has_number n (ms ++ ns) ≡ (has_number n ms || has_number n ns)
+pub has_append : (n : ℕ) (ms ns : List ℕ)
+    → has_number n (ms ++ ns) ≡ (has_number n ms || has_number n ns)
 has_append n [] ns = refl
-has_append n (m ∷ ms) ns = rw (has_append n ms ns) (or_assoc (n == m) (has_number n ms) (has_number n ns))
+has_append n (m ∷ ms) ns =
+    rw (has_append n ms ns) (or_assoc (n == m) (has_number n ms) (has_number n ns))
   where
     or_assoc : (a b c : Bool) → (a || (b || c)) ≡ ((a || b) || c)
     or_assoc true b c = refl
@@ -50,31 +71,66 @@ common_not_owned item None h = refl
 common_not_owned item (Some owner) h = absurd (cc)
 
 -- a path's item may be served by what the path consumes
-pub consumed_served : (schema : Schema) (bound : Bound) (item : ℕ) (used : Used) (number : ℕ) (c : Conjunct) → UsedComes schema bound item used → Consumes used number → slice_get bound.conjuncts number ≡ Some c → may_serve bound item c ≡ true
-consumed_served schema bound item (AllOf ts) number c comes k is = served (all_at (IsTerm schema bound item) ts k.0 k.1 comes k.2)
+pub consumed_served : (schema : Schema) (bound : Bound) (item : ℕ) (used : Used) (number : ℕ)
+    (c : Conjunct)
+    → UsedComes schema bound item used → Consumes used number
+    → slice_get bound.conjuncts number ≡ Some c → may_serve bound item c ≡ true
+consumed_served schema bound item (AllOf ts) number c comes k is =
+    served (all_at (IsTerm schema bound item) ts k.0 k.1 comes k.2)
   where
     served : IsTerm schema bound item k.1 → may_serve bound item c ≡ true
-    served (inl d) = let same : d.number ≡ number = some_is _ _ (sym d.numbered ∙ k.3) in ap (may_serve bound item) (some_is c d.conjunct (sym is ∙ ap (slice_get bound.conjuncts) (sym same) ∙ d.is)) ∙ d.allowed
+    served (inl d) =
+        let same : d.number ≡ number =
+        some_is _ _ (sym d.numbered ∙ k.3) in
+        ap (may_serve bound item)
+        (some_is c d.conjunct (sym is ∙ ap (slice_get bound.conjuncts) (sym same) ∙ d.is))
+        ∙ d.allowed
     served (inr (none, d)) = absurd (let no : None ≡ Some number = sym none ∙ k.3 in cc)
 consumed_served schema bound item (AnyOf tss) number c comes k is = absurd k
 
-used_case : (schema : Schema) (bound : Bound) (params : List Value) (placed : List ℕ) (l : Loop) (used : Loop → Used) (a : Rows) (number : ℕ) (c : Conjunct) → IsOffer schema bound placed l (used l) → slice_get bound.conjuncts number ≡ Some c → is_common c ≡ true → has_number number l.consumed ≡ true → (b : Bool) → is_left bound l.item ≡ b → cond b true (used_holds a params l.item (used l)) ≡ true → holds a params c.expr ≡ true
+used_case : (schema : Schema) (bound : Bound) (params : List Value) (placed : List ℕ) (l : Loop)
+    (used : Loop → Used) (a : Assignment) (number : ℕ) (c : Conjunct)
+    → IsOffer schema bound placed l (used l) → slice_get bound.conjuncts number ≡ Some c
+    → is_common c ≡ true → has_number number l.consumed ≡ true → (b : Bool)
+    → is_left bound l.item ≡ b → cond b true (used_holds a params l.item (used l)) ≡ true
+    → holds a params c.expr ≡ true
 used_case schema bound params placed l used a number c o is common h true e u =
-    absurd (let owned : owned_by l.item c.owner ≡ true = sym (ap (λ b. cond b (owned_by l.item c.owner) (is_common c)) e) ∙ consumed_served schema bound l.item (used l) number c o.comes (has_all (Consumes (used l)) l.consumed number o.consumes h) is in let not_owned : owned_by l.item c.owner ≡ false = common_not_owned l.item c.owner common in cc)
+    absurd
+    (let owned : owned_by l.item c.owner ≡ true =
+    sym (ap (λ b. cond b (owned_by l.item c.owner) (is_common c)) e)
+    ∙ consumed_served schema bound l.item (used l) number c o.comes
+    (has_all (Consumes (used l)) l.consumed number o.consumes h) is in
+    let not_owned : owned_by l.item c.owner ≡ false =
+    common_not_owned l.item c.owner common in cc)
 used_case schema bound params placed l used a number c o is common h false e u =
-    let r = consumed_holds schema bound params l.item a (used l) number o.comes (has_all (Consumes (used l)) l.consumed number o.consumes h) u in
+    let r =
+    consumed_holds schema bound params l.item a (used l) number o.comes
+    (has_all (Consumes (used l)) l.consumed number o.consumes h) u in
     same_holds a params bound number c r.0 is r.1 r.3
 
-pub settled_used : (schema : Schema) (database : List (List Row)) (bound : Bound) (params : List Value) (consumed placed : List ℕ) (loops : List Loop) (used : Loop → Used) (a : Rows) (number : ℕ) (c : Conjunct) → AreOffers schema bound placed loops used → kept (steps_of schema database bound params consumed (uses bound params used) placed loops) a ≡ true → slice_get bound.conjuncts number ≡ Some c → is_common c ≡ true → has_number number (consumed_by loops) ≡ true → holds a params c.expr ≡ true
-settled_used schema database bound params consumed placed [] used a number c o k is common h = absurd (cc)
+pub settled_used : (schema : Schema) (database : List (List Row)) (bound : Bound)
+    (params : List Value) (consumed placed : List ℕ) (loops : List Loop) (used : Loop → Used)
+    (a : Assignment) (number : ℕ) (c : Conjunct)
+    → AreOffers schema bound placed loops used
+    → kept (steps_of schema database bound params consumed (uses bound params used) placed loops) a
+    ≡ true
+    → slice_get bound.conjuncts number ≡ Some c → is_common c ≡ true
+    → has_number number (consumed_by loops) ≡ true → holds a params c.expr ≡ true
+settled_used schema database bound params consumed placed [] used a number c o k is common h =
+    absurd (cc)
 settled_used schema database bound params consumed placed (l ∷ ls) used a number c o k is common h =
     or_cases (has_number number l.consumed) (has_number number (consumed_by ls))
-    (λ t. used_case schema bound params placed l used a number c o.0 is common t (is_left bound l.item) refl (and_left (uses bound params used l a) _ k))
-    (λ t. settled_used schema database bound params consumed (l.item ∷ placed) ls used a number c o.1 (and_right (level_test is_common params consumed placed l.item 0 bound.conjuncts a) _ (and_right (uses bound params used l a) _ k)) is common t)
+    (λ t. used_case schema bound params placed l used a number c o.0 is common t
+    (is_left bound l.item) refl (and_left (uses bound params used l a) _ k))
+    (λ t. settled_used schema database bound params consumed
+    (l.item ∷ placed) ls used a number c o.1
+    (and_right (level_test is_common params consumed placed l.item 0 bound.conjuncts a) _
+    (and_right (uses bound params used l a) _ k)) is common t)
     (sym (has_append number l.consumed (consumed_by ls)) ∙ h)
 
 -- settled by a test
-pub first_common : (placed : List ℕ) (item : ℕ) (ns : List ℕ) (o : Option ℕ) → no_owner o ≡ true → common_first placed item ns ≡ true → first_by placed item ns o ≡ true
+pub first_common : (placed : List ℕ) (item : ℕ) (ns : List ℕ) (o : Option ℕ) → no_owner o ≡ true
+    → common_first placed item ns ≡ true → first_by placed item ns o ≡ true
 first_common placed item ns None h f = f
 first_common placed item ns (Some owner) h f = absurd (cc)
 
@@ -82,8 +138,10 @@ first_common placed item ns (Some owner) h f = absurd (cc)
 abbrev pub Covered : List ℕ → List ℕ → List ℕ → Type 0
 Covered ns placed rest = AllByRecursion (λ n. (has_number n placed || has_number n rest) ≡ true) ns
 
-covered_next : (ns : List ℕ) (item : ℕ) (placed rest : List ℕ) → Covered ns placed (item ∷ rest) → Covered ns (item ∷ placed) rest
-covered_next ns item placed rest h = all_map _ _ ns (λ n e. turn (n == item) (has_number n placed) (has_number n rest) e) h
+covered_next : (ns : List ℕ) (item : ℕ) (placed rest : List ℕ) → Covered ns placed (item ∷ rest)
+    → Covered ns (item ∷ placed) rest
+covered_next ns item placed rest h =
+    all_map _ _ ns (λ n e. turn (n == item) (has_number n placed) (has_number n rest) e) h
   where
     turn : (e p r : Bool) → (p || (e || r)) ≡ true → ((e || p) || r) ≡ true
     turn true p r h = refl
@@ -91,18 +149,24 @@ covered_next ns item placed rest h = all_map _ _ ns (λ n e. turn (n == item) (h
 
 covered_all : (ns placed : List ℕ) → Covered ns placed [] → all_in ns placed ≡ true
 covered_all [] placed h = refl
-covered_all (n ∷ ns) placed h = both_true _ _ (or_none (has_number n placed) h.0) (covered_all ns placed h.1)
+covered_all (n ∷ ns) placed h =
+    both_true _ _ (or_none (has_number n placed) h.0) (covered_all ns placed h.1)
   where
     or_none : (b : Bool) → (b || false) ≡ true → b ≡ true
     or_none true h = refl
     or_none false h = h
 
 -- what is not named makes no difference
-unnamed : (ns : List ℕ) (item : ℕ) (placed : List ℕ) → has_number item ns ≡ false → all_in ns (item ∷ placed) ≡ true → all_in ns placed ≡ true
+unnamed : (ns : List ℕ) (item : ℕ) (placed : List ℕ) → has_number item ns ≡ false
+    → all_in ns (item ∷ placed) ≡ true → all_in ns placed ≡ true
 unnamed [] item placed h e = refl
 unnamed (n ∷ ns) item placed h e =
-    let apart : (n == item) ≡ false = not_same n item (or_left (item == n) (has_number item ns) h) in
-    both_true _ _ (ap (λ b. b || has_number n placed) (sym apart) ∙ and_left _ (all_in ns (item ∷ placed)) e) (unnamed ns item placed (or_right (item == n) (has_number item ns) h) (and_right (has_number n (item ∷ placed)) _ e))
+    let apart : (n == item) ≡ false =
+    not_same n item (or_left (item == n) (has_number item ns) h) in
+    both_true _ _
+    (ap (λ b. b || has_number n placed) (sym apart) ∙ and_left _ (all_in ns (item ∷ placed)) e)
+    (unnamed ns item placed (or_right (item == n) (has_number item ns) h)
+    (and_right (has_number n (item ∷ placed)) _ e))
   where
     or_left : (a b : Bool) → (a || b) ≡ false → a ≡ false
     or_left true b h = h
@@ -113,27 +177,47 @@ unnamed (n ∷ ns) item placed h e =
     or_right false b h = h
 
     not_same : (n m : ℕ) → (m == n) ≡ false → (n == m) ≡ false
-    not_same n m e = not_case (n == m) (λ t. let yes : (m == n) ≡ true = eq-eqb m n (sym (eqb-true n m t)) in cc)
+    not_same n m e =
+        not_case (n == m) (λ t. let yes : (m == n) ≡ true = eq-eqb m n (sym (eqb-true n m t)) in cc)
       where
         not_case : (b : Bool) → (b ≡ true → ⊥) → b ≡ false
         not_case true f = absurd (f refl)
         not_case false f = refl
 
-named_case : (ns : List ℕ) (item : ℕ) (placed : List ℕ) → all_in ns (item ∷ placed) ≡ true → all_in ns placed ≡ false → (b : Bool) → has_number item ns ≡ b → b ≡ true
+named_case : (ns : List ℕ) (item : ℕ) (placed : List ℕ) → all_in ns (item ∷ placed) ≡ true
+    → all_in ns placed ≡ false → (b : Bool) → has_number item ns ≡ b → b ≡ true
 named_case ns item placed e h true f = refl
-named_case ns item placed e h false f = absurd (let yes : all_in ns placed ≡ true = unnamed ns item placed f e in cc)
+named_case ns item placed e h false f =
+    absurd (let yes : all_in ns placed ≡ true = unnamed ns item placed f e in cc)
 
-pub settled_test : (schema : Schema) (database : List (List Row)) (bound : Bound) (params : List Value) (consumed placed : List ℕ) (loops : List Loop) (u : Loop → Rows → Bool) (a : Rows) (number : ℕ) (c : Conjunct) → kept (steps_of schema database bound params consumed u placed loops) a ≡ true → slice_get bound.conjuncts number ≡ Some c → is_common c ≡ true → has_number number consumed ≡ false → Covered (names c.expr) placed (loop_items loops) → all_in (names c.expr) placed ≡ false → holds a params c.expr ≡ true
-settled_test schema database bound params consumed placed [] u a number c k is common n cover h = absurd (let yes : all_in (names c.expr) placed ≡ true = covered_all (names c.expr) placed cover in cc)
+pub settled_test : (schema : Schema) (database : List (List Row)) (bound : Bound)
+    (params : List Value) (consumed placed : List ℕ) (loops : List Loop)
+    (u : Loop → Assignment → Bool) (a : Assignment) (number : ℕ) (c : Conjunct)
+    → kept (steps_of schema database bound params consumed u placed loops) a ≡ true
+    → slice_get bound.conjuncts number ≡ Some c → is_common c ≡ true
+    → has_number number consumed ≡ false → Covered (names c.expr) placed (loop_items loops)
+    → all_in (names c.expr) placed ≡ false → holds a params c.expr ≡ true
+settled_test schema database bound params consumed placed [] u a number c k is common n cover h =
+    absurd
+    (let yes : all_in (names c.expr) placed ≡ true = covered_all (names c.expr) placed cover in cc)
 settled_test schema database bound params consumed placed (l ∷ ls) u a number c k is common n cover h =
     let rest = and_right (u l a) _ k in
     test_case (all_in (names c.expr) (l.item ∷ placed)) refl
-    (λ e. test_at is_common params consumed placed l.item 0 bound.conjuncts a number c (and_left (level_test is_common params consumed placed l.item 0 bound.conjuncts a) _ rest) is common
-    (first_common placed l.item (names c.expr) c.owner common (ap (λ b. (b || (is_empty (names c.expr) && is_empty placed))) (both_true _ _ (named_case (names c.expr) l.item placed e h (has_number l.item (names c.expr)) refl) e)))
+    (λ e. test_at is_common params consumed placed l.item 0 bound.conjuncts a number c
+    (and_left (level_test is_common params consumed placed l.item 0 bound.conjuncts a) _ rest) is
+    common
+    (first_common placed l.item (names c.expr) c.owner common
+    (ap (λ b. (b || (is_empty (names c.expr) && is_empty placed)))
+    (both_true _ _
+    (named_case (names c.expr) l.item placed e h (has_number l.item (names c.expr)) refl) e)))
     (ap (λ m. has_number m consumed) (zero-add number) ∙ n))
-    (λ e. settled_test schema database bound params consumed (l.item ∷ placed) ls u a number c (and_right (level_test is_common params consumed placed l.item 0 bound.conjuncts a) _ rest) is common n (covered_next (names c.expr) l.item placed (loop_items ls) cover) e)
+    (λ e. settled_test schema database bound params consumed (l.item ∷ placed) ls u a number c
+    (and_right (level_test is_common params consumed placed l.item 0 bound.conjuncts a) _ rest) is
+    common n (covered_next (names c.expr) l.item placed (loop_items ls) cover) e)
   where
-    test_case : {G : Type 0} (b : Bool) → all_in (names c.expr) (l.item ∷ placed) ≡ b → (all_in (names c.expr) (l.item ∷ placed) ≡ true → G) → (all_in (names c.expr) (l.item ∷ placed) ≡ false → G) → G
+    test_case : {G : Type 0} (b : Bool) → all_in (names c.expr) (l.item ∷ placed) ≡ b
+        → (all_in (names c.expr) (l.item ∷ placed) ≡ true → G)
+        → (all_in (names c.expr) (l.item ∷ placed) ≡ false → G) → G
     test_case true e f g = f e
     test_case false e f g = g e
 
@@ -147,20 +231,44 @@ some_named (n ∷ ns) h = refl
 
 covered_start : (ns rest : List ℕ) → all_in ns rest ≡ true → Covered ns [] rest
 covered_start [] rest h = tt
-covered_start (n ∷ ns) rest h = (and_left _ _ h, covered_start ns rest (and_right (has_number n rest) _ h))
+covered_start (n ∷ ns) rest h =
+    (and_left _ _ h, covered_start ns rest (and_right (has_number n rest) _ h))
 
 -- each common conjunct holds where the used terms and the tests of all loops do
-settles_one : (schema : Schema) (database : List (List Row)) (bound : Bound) (params : List Value) (loops : List Loop) (used : Loop → Used) (a : Rows) (number : ℕ) (c : Conjunct) → loops ≢ [] → AreOffers schema bound [] loops used → all_in (names c.expr) (loop_items loops) ≡ true → kept (steps_of schema database bound params (consumed_by loops) (uses bound params used) [] loops) a ≡ true → slice_get bound.conjuncts number ≡ Some c → is_common c ≡ true → (b : Bool) → has_number number (consumed_by loops) ≡ b → (e : Bool) → is_empty (names c.expr) ≡ e → holds a params c.expr ≡ true
-settles_one schema database bound params loops used a number c some o named k is common true f e g = settled_used schema database bound params (consumed_by loops) [] loops used a number c o k is common f
+settles_one : (schema : Schema) (database : List (List Row)) (bound : Bound) (params : List Value)
+    (loops : List Loop) (used : Loop → Used) (a : Assignment) (number : ℕ) (c : Conjunct)
+    → loops ≢ [] → AreOffers schema bound [] loops used
+    → all_in (names c.expr) (loop_items loops) ≡ true
+    → kept
+    (steps_of schema database bound params (consumed_by loops) (uses bound params used) [] loops) a
+    ≡ true
+    → slice_get bound.conjuncts number ≡ Some c → is_common c ≡ true → (b : Bool)
+    → has_number number (consumed_by loops) ≡ b → (e : Bool) → is_empty (names c.expr) ≡ e
+    → holds a params c.expr ≡ true
+settles_one schema database bound params loops used a number c some o named k is common true f e g =
+    settled_used schema database bound params
+    (consumed_by loops) [] loops used a number c o k is common f
 settles_one schema database bound params loops used a number c some o named k is common false f false g = settled_test schema database bound params (consumed_by loops) [] loops (uses bound params used) a number c k is common f (covered_start (names c.expr) (loop_items loops) named) (some_named (names c.expr) g)
 settles_one schema database bound params [] used a number c some o named k is common false f true g = absurd (some refl)
 settles_one schema database bound params (l ∷ ls) used a number c some o named k is common false f true g =
-    test_at is_common params (consumed_by (l ∷ ls)) [] l.item 0 bound.conjuncts a number c (and_left (level_test is_common params (consumed_by (l ∷ ls)) [] l.item 0 bound.conjuncts a) _ (and_right (uses bound params used l a) _ k)) is common
-    (first_common [] l.item (names c.expr) c.owner common (empty_first l.item (names c.expr) g)) (ap (λ m. has_number m (consumed_by (l ∷ ls))) (zero-add number) ∙ f)
+    test_at is_common params (consumed_by (l ∷ ls)) [] l.item 0 bound.conjuncts a number c
+    (and_left (level_test is_common params (consumed_by (l ∷ ls)) [] l.item 0 bound.conjuncts a) _
+    (and_right (uses bound params used l a) _ k)) is common
+    (first_common [] l.item (names c.expr) c.owner common (empty_first l.item (names c.expr) g))
+    (ap (λ m. has_number m (consumed_by (l ∷ ls))) (zero-add number) ∙ f)
 
-settles : (schema : Schema) (database : List (List Row)) (plan : Plan) (params : List Value) (fits : FitsOffers schema plan) (a : Rows) → kept (steps_of schema database plan.bound params (consumed_by plan.loops) (uses plan.bound params fits.used) [] plan.loops) a ≡ true → chosen_hold is_common params plan.bound.conjuncts a ≡ true
+settles : (schema : Schema) (database : List (List Row)) (plan : Plan) (params : List Value)
+    (fits : FitsOffers schema plan) (a : Assignment)
+    → kept
+    (steps_of schema database plan.bound params (consumed_by plan.loops)
+    (uses plan.bound params fits.used) [] plan.loops) a ≡ true
+    → chosen_hold is_common params plan.bound.conjuncts a ≡ true
 settles schema database plan params fits a k =
-    chosen_from is_common params plan.bound.conjuncts a (λ number c is common. settles_one schema database plan.bound params plan.loops fits.used a number c fits.some fits.offered (all_at _ plan.bound.conjuncts number c fits.named is) k is common (has_number number (consumed_by plan.loops)) refl (is_empty (names c.expr)) refl)
+    chosen_from is_common params plan.bound.conjuncts a
+    (λ number c is common.
+    settles_one schema database plan.bound params plan.loops fits.used a number c fits.some
+    fits.offered (all_at _ plan.bound.conjuncts number c fits.named is) k is common
+    (has_number number (consumed_by plan.loops)) refl (is_empty (names c.expr)) refl)
 
 -- a number that is consumed is consumed by some loop
 pub record IsConsumedAt (loops : List Loop) (number : ℕ) : Type 0 where
@@ -169,36 +277,52 @@ pub record IsConsumedAt (loops : List Loop) (number : ℕ) : Type 0 where
   pub is : slice_get loops at ≡ Some loop
   pub consumed : has_number number loop.consumed ≡ true
 
-consumed_at : (loops : List Loop) (number : ℕ) → has_number number (consumed_by loops) ≡ true → IsConsumedAt loops number
+consumed_at : (loops : List Loop) (number : ℕ) → has_number number (consumed_by loops) ≡ true
+    → IsConsumedAt loops number
 consumed_at [] number h = absurd (cc)
 consumed_at (l ∷ ls) number h =
     or_cases (has_number number l.consumed) (has_number number (consumed_by ls))
     (λ t. record { at = 0; loop = l; is = refl; consumed = t })
-    (λ t. let r = consumed_at ls number t in record { at = suc r.at; loop = r.loop; is = r.is; consumed = r.consumed })
+    (λ t. let r =
+    consumed_at ls number t in
+    record { at = suc r.at; loop = r.loop; is = r.is; consumed = r.consumed })
     (sym (has_append number l.consumed (consumed_by ls)) ∙ h)
 
-offer_served : (schema : Schema) (bound : Bound) (placed : List ℕ) (loops : List Loop) (used : Loop → Used) (at : ℕ) (l : Loop) (number : ℕ) (c : Conjunct) → AreOffers schema bound placed loops used → slice_get loops at ≡ Some l → has_number number l.consumed ≡ true → slice_get bound.conjuncts number ≡ Some c → may_serve bound l.item c ≡ true
+offer_served : (schema : Schema) (bound : Bound) (placed : List ℕ) (loops : List Loop)
+    (used : Loop → Used) (at : ℕ) (l : Loop) (number : ℕ) (c : Conjunct)
+    → AreOffers schema bound placed loops used → slice_get loops at ≡ Some l
+    → has_number number l.consumed ≡ true → slice_get bound.conjuncts number ≡ Some c
+    → may_serve bound l.item c ≡ true
 offer_served schema bound placed [] used at l number c o e h is = absurd (cc)
 offer_served schema bound placed (m ∷ ms) used zero l number c o e h is =
     let same = some_is m l e in
-    subst (λ (z : Loop). may_serve bound z.item c ≡ true) same (consumed_served schema bound m.item (used m) number c o.0.comes (has_all (Consumes (used m)) m.consumed number o.0.consumes (ap (λ (z : Loop). has_number number z.consumed) same ∙ h)) is)
-offer_served schema bound placed (m ∷ ms) used (suc at) l number c o e h is = offer_served schema bound (m.item ∷ placed) ms used at l number c o.1 e h is
+    subst (λ (z : Loop). may_serve bound z.item c ≡ true) same
+    (consumed_served schema bound m.item (used m) number c o.0.comes
+    (has_all (Consumes (used m)) m.consumed number o.0.consumes
+    (ap (λ (z : Loop). has_number number z.consumed) same ∙ h)) is)
+offer_served schema bound placed (m ∷ ms) used (suc at) l number c o e h is =
+    offer_served schema bound (m.item ∷ placed) ms used at l number c o.1 e h is
 
-all_from_at : {X : Type 0} (P : X → Type 0) (xs : List X) → ((k : ℕ) (x : X) → slice_get xs k ≡ Some x → P x) → AllByRecursion P xs
+all_from_at : {X : Type 0} (P : X → Type 0) (xs : List X)
+    → ((k : ℕ) (x : X) → slice_get xs k ≡ Some x → P x) → AllByRecursion P xs
 all_from_at P [] f = tt
 all_from_at P (x ∷ xs) f = (f 0 x refl, all_from_at P xs (λ k y e. f (suc k) y e))
 
-not_there : (ls : List Loop) (item k : ℕ) (m : Loop) → AllByRecursion (λ j. j ≢ item) (loop_items ls) → slice_get ls k ≡ Some m → m.item ≡ item → ⊥
+not_there : (ls : List Loop) (item k : ℕ) (m : Loop)
+    → AllByRecursion (λ j. j ≢ item) (loop_items ls) → slice_get ls k ≡ Some m → m.item ≡ item → ⊥
 not_there [] item k m h f e = cc
 not_there (l ∷ ls) item zero m h f e = h.0 (ap (λ (z : Loop). z.item) (some_is l m f) ∙ e)
 not_there (l ∷ ls) item (suc k) m h f e = not_there ls item k m h.1 f e
 
 -- two loops of one item are one loop
-one_loop : (loops : List Loop) → Distinct (loop_items loops) → (j k : ℕ) (l m : Loop) → slice_get loops j ≡ Some l → slice_get loops k ≡ Some m → l.item ≡ m.item → l ≡ m
+one_loop : (loops : List Loop) → Distinct (loop_items loops) → (j k : ℕ) (l m : Loop)
+    → slice_get loops j ≡ Some l → slice_get loops k ≡ Some m → l.item ≡ m.item → l ≡ m
 one_loop [] d j k l m e f same = absurd (cc)
 one_loop (n ∷ ns) d zero zero l m e f same = some_is l m (sym e ∙ f)
-one_loop (n ∷ ns) d zero (suc k) l m e f same = absurd (not_there ns n.item k m d.0 f (sym (ap (λ (z : Loop). z.item) (some_is n l e) ∙ same)))
-one_loop (n ∷ ns) d (suc j) zero l m e f same = absurd (not_there ns n.item j l d.0 e (same ∙ sym (ap (λ (z : Loop). z.item) (some_is n m f))))
+one_loop (n ∷ ns) d zero (suc k) l m e f same =
+    absurd (not_there ns n.item k m d.0 f (sym (ap (λ (z : Loop). z.item) (some_is n l e) ∙ same)))
+one_loop (n ∷ ns) d (suc j) zero l m e f same =
+    absurd (not_there ns n.item j l d.0 e (same ∙ sym (ap (λ (z : Loop). z.item) (some_is n m f))))
 one_loop (n ∷ ns) d (suc j) (suc k) l m e f same = one_loop ns d.1 j k l m e f same
 
 owner_is : (item : ℕ) (o : Option ℕ) → owned_by item o ≡ true → o ≡ Some item
@@ -206,37 +330,60 @@ owner_is item None h = absurd (cc)
 owner_is item (Some owner) h = ap Some (eqb-true owner item h)
 
 -- what an owned conjunct is served at is its owner
-served_owner : (bound : Bound) (item owner : ℕ) (o : Option ℕ) → o ≡ Some owner → (b : Bool) → cond b (owned_by item o) (no_owner o) ≡ true → owner ≡ item
+served_owner : (bound : Bound) (item owner : ℕ) (o : Option ℕ) → o ≡ Some owner → (b : Bool)
+    → cond b (owned_by item o) (no_owner o) ≡ true → owner ≡ item
 served_owner bound item owner None e b h = absurd (cc)
 served_owner bound item owner (Some p) e true h = some_is owner p (sym e) ∙ eqb-true p item h
 served_owner bound item owner (Some p) e false h = absurd (cc)
 
-all_ours : (schema : Schema) (bound : Bound) (loops : List Loop) (used : Loop → Used) → AreOffers schema bound [] loops used → Distinct (loop_items loops) → AllByRecursion (Ours bound (consumed_by loops)) loops
+all_ours : (schema : Schema) (bound : Bound) (loops : List Loop) (used : Loop → Used)
+    → AreOffers schema bound [] loops used → Distinct (loop_items loops)
+    → AllByRecursion (Ours bound (consumed_by loops)) loops
 all_ours schema bound loops used o d =
     all_from_at _ loops (λ k l e number c is owned h.
     let r = consumed_at loops number h in
-    let same : l.item ≡ r.loop.item = served_owner bound r.loop.item l.item c.owner (owner_is l.item c.owner owned) (is_left bound r.loop.item) (offer_served schema bound [] loops used r.at r.loop number c o r.is r.consumed is) in
-    subst (λ (z : Loop). has_number number z.consumed ≡ true) (sym (one_loop loops d k r.at l r.loop e r.is same)) r.consumed)
+    let same : l.item ≡ r.loop.item =
+    served_owner bound r.loop.item l.item c.owner (owner_is l.item c.owner owned)
+    (is_left bound r.loop.item)
+    (offer_served schema bound [] loops used r.at r.loop number c o r.is r.consumed is) in
+    subst (λ (z : Loop). has_number number z.consumed ≡ true)
+    (sym (one_loop loops d k r.at l r.loop e r.is same)) r.consumed)
 
 numbers_at_least : (start n : ℕ) → AllByRecursion (λ j. start ≤ j) (numbers_from start n)
 numbers_at_least start zero = tt
-numbers_at_least start (suc n) = (omega arith, all_map _ _ (numbers_from (start + 1) n) (λ j h. omega (arith, h)) (numbers_at_least (start + 1) n))
+numbers_at_least start (suc n) = (
+  omega arith,
+  all_map _ _ (numbers_from (start + 1) n) (λ j h. omega (arith, h))
+      (numbers_at_least (start + 1) n),
+)
 
 pub numbers_distinct : (start n : ℕ) → Distinct (numbers_from start n)
 numbers_distinct start zero = tt
-numbers_distinct start (suc n) = (all_map _ _ (numbers_from (start + 1) n) (λ j h e. above start j h e) (numbers_at_least (start + 1) n), numbers_distinct (start + 1) n)
+numbers_distinct start (suc n) = (
+  all_map _ _ (numbers_from (start + 1) n) (λ j h e. above start j h e)
+      (numbers_at_least (start + 1) n),
+  numbers_distinct (start + 1) n,
+)
   where
     above : (start j : ℕ) → start + 1 ≤ j → j ≡ start → ⊥
     above start j h e = absurd (omega arith)
 
-numbers_below : (start n total : ℕ) → start + n ≤ total → AllByRecursion (λ j. j < total) (numbers_from start n)
+numbers_below : (start n total : ℕ) → start + n ≤ total
+    → AllByRecursion (λ j. j < total) (numbers_from start n)
 numbers_below start zero total h = tt
 numbers_below start (suc n) total h = (omega arith, numbers_below (start + 1) n total (omega arith))
 
 pub numbers_inside : (bound : Bound) → Inside (numbers_from 0 (length bound.items)) (no_rows bound)
-numbers_inside bound = all_map _ _ _ (λ j h. let e : length (no_rows bound) ≡ length bound.items = length-replicate (length bound.items) None in subst (λ (n : ℕ). j < n) (sym e) h) (numbers_below 0 (length bound.items) (length bound.items) (omega arith))
+numbers_inside bound =
+    all_map _ _ _
+    (λ j h. let e : length (no_rows bound) ≡ length bound.items =
+    length-replicate (length bound.items) None in subst (λ (n : ℕ). j < n) (sym e) h)
+    (numbers_below 0 (length bound.items) (length bound.items) (omega arith))
 
-pub free_choices : (database : List (List Row)) (bound : Bound) (params : List Value) (i : ℕ) (b : Bool) → not b ≡ true → (xs : List (Option Row)) (ys zs : List (Option Row)) → cond b ys xs ≡ cond b zs xs
+pub free_choices : (database : List (List Row)) (bound : Bound) (params : List Value) (i : ℕ)
+    (b : Bool)
+    → not b ≡ true → (xs : List (Option Row)) (ys zs : List (Option Row))
+    → cond b ys xs ≡ cond b zs xs
 free_choices database bound params i true h xs ys zs = absurd (cc)
 free_choices database bound params i false h xs ys zs = refl
 
@@ -245,16 +392,41 @@ cond_same true = refl
 cond_same false = refl
 
 -- T4.3: the nested walks of a plan whose loops are offers are a permutation of the statement's rows
-pub plan_rows : (schema : Schema) (plan : Plan) → FitsOffers schema plan → (database : List (List Row)) → IsDatabase schema plan.bound database → (params : List Value) → SameTally (plan_walks schema database plan params) (statement_rows plan.bound database params)
+pub plan_rows : (schema : Schema) (plan : Plan) → FitsOffers schema plan
+    → (database : List (List Row)) → IsDatabase schema plan.bound database → (params : List Value)
+    → SameTally (plan_walks schema database plan params) (statement_rows plan.bound database params)
 plan_rows schema plan fits database valid params =
-    let steps = steps_of schema database plan.bound params (consumed_by plan.loops) (uses plan.bound params fits.used) [] plan.loops in
-    let once : Rearranges (λ i. not (is_left plan.bound i)) (step_items steps) (numbers_from 0 (length plan.bound.items)) = subst (λ (is : List ℕ). Rearranges (λ i. not (is_left plan.bound i)) is (numbers_from 0 (length plan.bound.items))) (sym (steps_items schema database plan.bound params (consumed_by plan.loops) (uses plan.bound params fits.used) [] plan.loops)) fits.once in
+    let steps =
+    steps_of schema database plan.bound params (consumed_by plan.loops)
+    (uses plan.bound params fits.used) [] plan.loops in
+    let once : Rearranges (λ i. not (is_left plan.bound i)) (step_items steps)
+    (numbers_from 0 (length plan.bound.items)) =
+    subst
+    (λ (is : List ℕ). Rearranges (λ i. not (is_left plan.bound i)) is
+    (numbers_from 0 (length plan.bound.items)))
+    (sym
+    (steps_items schema database plan.bound params (consumed_by plan.loops)
+    (uses plan.bound params fits.used) [] plan.loops)) fits.once in
     record {
       each = λ f.
-          ap (tally f) (nested_used schema database plan.bound params (consumed_by plan.loops) (λ l. always) (uses plan.bound params fits.used) [] plan.loops (no_rows plan.bound))
-          ∙ (join_law (choices database plan.bound params) (λ i h env a. free_choices database plan.bound params i (is_left plan.bound i) h _ _ _) (chosen_hold is_common params plan.bound.conjuncts ∷ []) steps (numbers_from 0 (length plan.bound.items)) (no_rows plan.bound) once (numbers_inside plan.bound) (numbers_distinct 0 (length plan.bound.items))
-          (are_steps schema database plan.bound params (consumed_by plan.loops) [] plan.loops fits.used valid fits.owners fits.offered (all_ours schema plan.bound plan.loops fits.used fits.offered (distinct_reorders _ _ fits.once (numbers_distinct 0 (length plan.bound.items)))))
+          ap (tally f)
+          (nested_used schema database plan.bound params (consumed_by plan.loops) (λ l. always)
+          (uses plan.bound params fits.used) [] plan.loops (no_rows plan.bound))
+          ∙ (join_law (choices database plan.bound params)
+          (λ i h env a. free_choices database plan.bound params i (is_left plan.bound i) h _ _ _)
+          (chosen_hold is_common params plan.bound.conjuncts ∷ []) steps
+          (numbers_from 0 (length plan.bound.items)) (no_rows plan.bound) once
+          (numbers_inside plan.bound) (numbers_distinct 0 (length plan.bound.items))
+          (are_steps schema database plan.bound params
+          (consumed_by plan.loops) [] plan.loops fits.used valid fits.owners fits.offered
+          (all_ours schema plan.bound plan.loops fits.used fits.offered
+          (distinct_reorders _ _ fits.once (numbers_distinct 0 (length plan.bound.items)))))
           (λ a k. cond_same _ ∙ settles schema database plan params fits a k)
-          (λ a h. sound schema database plan.bound params (consumed_by plan.loops) [] plan.loops fits.used a fits.offered (sym (cond_same _) ∙ h))).each f
-          ∙ ap (tally f) (filter_agree _ _ (λ a. cond_same (chosen_hold is_common params plan.bound.conjuncts a)) (product (choices database plan.bound params) (numbers_from 0 (length plan.bound.items)) (no_rows plan.bound)));
+          (λ a h. sound schema database plan.bound params
+          (consumed_by plan.loops) [] plan.loops fits.used a fits.offered
+          (sym (cond_same _) ∙ h))).each f
+          ∙ ap (tally f)
+          (filter_agree _ _ (λ a. cond_same (chosen_hold is_common params plan.bound.conjuncts a))
+          (product (choices database plan.bound params) (numbers_from 0 (length plan.bound.items))
+          (no_rows plan.bound)));
     }

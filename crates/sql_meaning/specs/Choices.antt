@@ -1,4 +1,5 @@
-use Rattle.std.specs.Prelude.{List, ℕ, Bool, true, ◌&&◌, [], ◌∷◌, cond, Option, Some, None, ◌++◌, map}
+use Rattle.std.specs.Prelude.{List, ℕ, Bool, true, ◌&&◌, [], ◌∷◌, cond, Option, Some, None, ◌++◌}
+use Rattle.std.specs.Prelude.{map}
 use Rattle.std.specs.List.{flat_map}
 use Rattle.std.specs.Ordering.{nat_cmp, eq_by_cmp}
 use Rattle.list_laws.specs.Order.{sort_by}
@@ -6,7 +7,8 @@ use Rattle.list_laws.specs.FirstComing.{keep_first}
 use Rattle.sql_meaning.specs.Rows.{Site, AtRowid, AtColumn}
 use Rattle.sql_meaning.specs.Terms.{Term, keys_of, TermKind, Equals, Within, IsNothing, Low, High}
 use Rattle.sql_meaning.specs.Expressions.{names}
-use Rattle.sql_meaning.specs.Paths.{KeyExpr, EqPart, OneKey, ManyKeys, NullKey, Edge, Path, RowidRange, RowidEq, IndexSeek, Paths, Nowhere, Then}
+use Rattle.sql_meaning.specs.Paths.{KeyExpr, EqPart, OneKey, ManyKeys, NullKey, Edge, Path}
+use Rattle.sql_meaning.specs.Paths.{RowidRange, RowidEq, IndexSeek, Paths, Nowhere, Then}
 use Rattle.sql_meaning.specs.Statements.{all_in}
 use Rattle.sql_meaning.specs.Orders.{same_site, same_collation}
 use Rattle.sql_meaning.specs.Schemas.{IndexColumn}
@@ -77,21 +79,42 @@ abbrev pub nothing_taken : Taken
 nothing_taken = record { eqs = []; low = None; high = None; used = [] }
 
 abbrev pub take_bounds : Option Term → Option Term → Taken
-take_bounds low high = record { eqs = []; low = edge_of low; high = edge_of high; used = one_or_none low ++ one_or_none high }
+take_bounds low high =
+    record {
+      eqs = [];
+      low = edge_of low;
+      high = edge_of high;
+      used =
+          one_or_none low ++ one_or_none high;
+    }
 
 abbrev pub take_equal : Option Term → Taken → Taken → Taken
-take_equal (Some t) rest bounds = record { eqs = part_or t.kind ∷ rest.eqs; low = rest.low; high = rest.high; used = t ∷ rest.used }
+take_equal (Some t) rest bounds =
+    record {
+      eqs = part_or t.kind ∷ rest.eqs;
+      low = rest.low;
+      high = rest.high;
+      used =
+          t ∷ rest.used;
+    }
 take_equal None rest bounds = bounds
 
 abbrev pub fits_column : List ℕ → Option ℕ → IndexColumn → Term → Bool
-fits_column placed alias c t = is_usable placed t && suits (column_site alias c.column) t.kind (same_collation t.collation c.collation)
+fits_column placed alias c t =
+    is_usable placed t
+    && suits (column_site alias c.column) t.kind (same_collation t.collation c.collation)
 
--- 5.7: for each column from the first on the first usable equality term until a column has none, then that column's first usable bounds
+-- 5.7: for each column from the first on the first usable equality term until a column has none,
+-- then that column's first usable bounds
 abbrev pub seek_terms : List ℕ → Option ℕ → List ColumnTerms → List IndexColumn → Taken
 seek_terms placed alias columns [] = nothing_taken
 seek_terms placed alias columns (c ∷ cs) =
-    take_equal (first_that (fits_column placed alias c) (terms_at (column_site alias c.column) columns).equals) (seek_terms placed alias columns cs)
-    (take_bounds (first_that (fits_column placed alias c) (terms_at (column_site alias c.column) columns).lows) (first_that (fits_column placed alias c) (terms_at (column_site alias c.column) columns).highs))
+    take_equal
+    (first_that (fits_column placed alias c) (terms_at (column_site alias c.column) columns).equals)
+    (seek_terms placed alias columns cs)
+    (take_bounds
+    (first_that (fits_column placed alias c) (terms_at (column_site alias c.column) columns).lows)
+    (first_that (fits_column placed alias c) (terms_at (column_site alias c.column) columns).highs))
 
 -- an offer's path with its used terms
 pub record Offer : Type 0 where
@@ -100,8 +123,17 @@ pub record Offer : Type 0 where
 
 abbrev pub rowid_range : Option Term → Option Term → Option Offer
 rowid_range None None = None
-rowid_range (Some l) high = Some (record { path = RowidRange (edge_of (Some l)) (edge_of high); used = one_or_none (Some l) ++ one_or_none high })
-rowid_range None (Some h) = Some (record { path = RowidRange None (edge_of (Some h)); used = one_or_none None ++ one_or_none (Some h) })
+rowid_range (Some l) high =
+    Some
+    (record {
+      path = RowidRange (edge_of (Some l)) (edge_of high);
+      used =
+          one_or_none (Some l) ++ one_or_none high;
+    })
+rowid_range None (Some h) =
+    Some
+    (record
+    { path = RowidRange None (edge_of (Some h)); used = one_or_none None ++ one_or_none (Some h) })
 
 abbrev pub rowid_equal : Option Term → Option Offer → Option Offer
 rowid_equal (Some t) range = Some (record { path = RowidEq (part_or t.kind); used = t ∷ [] })
@@ -110,15 +142,19 @@ rowid_equal None range = range
 -- 5.7, kind 2: by the first usable equality term of the rowid, else by its first usable bounds
 abbrev pub rowid_offer : List ℕ → List ColumnTerms → Option Offer
 rowid_offer placed columns =
-    rowid_equal (first_that (is_usable placed) (terms_at AtRowid columns).equals) (rowid_range (first_that (is_usable placed) (terms_at AtRowid columns).lows) (first_that (is_usable placed) (terms_at AtRowid columns).highs))
+    rowid_equal (first_that (is_usable placed) (terms_at AtRowid columns).equals)
+    (rowid_range (first_that (is_usable placed) (terms_at AtRowid columns).lows)
+    (first_that (is_usable placed) (terms_at AtRowid columns).highs))
 
 -- 5.7, kind 3: a seek, which needs at least one part
 abbrev pub seek_of : ℕ → Taken → List Term → Option Offer
 seek_of index taken [] = None
-seek_of index taken (t ∷ ts) = Some (record { path = IndexSeek index taken.eqs taken.low taken.high; used = t ∷ ts })
+seek_of index taken (t ∷ ts) =
+    Some (record { path = IndexSeek index taken.eqs taken.low taken.high; used = t ∷ ts })
 
 abbrev pub seek_offer : List ℕ → Option ℕ → List ColumnTerms → ℕ → List IndexColumn → Option Offer
-seek_offer placed alias columns index cs = seek_of index (seek_terms placed alias columns cs) (seek_terms placed alias columns cs).used
+seek_offer placed alias columns index cs =
+    seek_of index (seek_terms placed alias columns cs) (seek_terms placed alias columns cs).used
 
 abbrev pub number_list : Option ℕ → List ℕ
 number_list None = []
@@ -126,7 +162,8 @@ number_list (Some n) = n ∷ []
 
 -- the conjuncts whose direct terms it uses, rising and each once
 abbrev pub consumed_of : List Term → List ℕ
-consumed_of ts = keep_first (eq_by_cmp nat_cmp) [] (sort_by nat_cmp (flat_map (λ t. number_list t.conjunct) ts))
+consumed_of ts =
+    keep_first (eq_by_cmp nat_cmp) [] (sort_by nat_cmp (flat_map (λ t. number_list t.conjunct) ts))
 
 -- 5.7, kind 4: a union of one offer for each branch
 abbrev pub paths_of : List Offer → Paths

@@ -1,8 +1,10 @@
-use Rattle.std.specs.Prelude.{ℕ, Bool, cond, not, ◌&&◌, ◌||◌, List, ◌∷◌, ◌==◌, Option, Some, None, ◌+◌, true, []}
-use Rattle.sql_meaning.specs.Statements.{Conjunct, Bound, is_left, owned_by, is_common, has_number, all_in, is_empty}
+use Rattle.std.specs.Prelude.{ℕ, Bool, cond, not, ◌&&◌, ◌||◌, List, ◌∷◌, ◌==◌, Option, Some, None}
+use Rattle.std.specs.Prelude.{◌+◌, true, []}
+use Rattle.sql_meaning.specs.Statements.{Conjunct, Bound, is_left, owned_by, is_common, has_number}
+use Rattle.sql_meaning.specs.Statements.{all_in, is_empty}
 use Rattle.sql_meaning.specs.Expressions.{names}
 use Rattle.sql_meaning.specs.Values.{Value}
-use Rattle.sql_meaning.specs.Rows.{Rows}
+use Rattle.sql_meaning.specs.Rows.{Assignment}
 use Rattle.sql_meaning.specs.Evaluation.{holds}
 
 -- R15: a LEFT item is served by its own conjuncts alone, every other item by common conjuncts alone
@@ -13,9 +15,11 @@ may_serve bound item c = cond (is_left bound item) (owned_by item c.owner) (is_c
 abbrev pub may_derive : Bound → ℕ → Conjunct → Bool
 may_derive bound item c = is_common c && not (is_left bound item)
 
--- the conjunct names the item, and every other item that it names is placed; or it names no item and nothing is placed
+-- the conjunct names the item, and every other item that it names is placed; or it names no item
+-- and nothing is placed
 abbrev pub common_first : List ℕ → ℕ → List ℕ → Bool
-common_first placed item named = (has_number item named && all_in named (item ∷ placed)) || (is_empty named && is_empty placed)
+common_first placed item named =
+    (has_number item named && all_in named (item ∷ placed)) || (is_empty named && is_empty placed)
 
 -- R15's FirstAt: an owned conjunct is first evaluated at the level of its owner
 abbrev pub first_by : List ℕ → ℕ → List ℕ → Option ℕ → Bool
@@ -25,8 +29,11 @@ first_by placed item named (Some owner) = owner == item
 abbrev pub first_at : List ℕ → ℕ → Conjunct → Bool
 first_at placed item c = first_by placed item (names c.expr) c.owner
 
--- the chosen conjuncts, numbered from j, that can first be evaluated at this level and that no path consumed hold
-abbrev pub level_test : (Conjunct → Bool) → List Value → List ℕ → List ℕ → ℕ → ℕ → List Conjunct → Rows → Bool
+-- the chosen conjuncts, numbered from j, that can first be evaluated at this level and that no path
+-- consumed hold
+abbrev pub level_test : (Conjunct → Bool) → List Value → List ℕ → List ℕ → ℕ → ℕ → List Conjunct
+    → Assignment → Bool
 level_test chosen params consumed placed item j [] env = true
 level_test chosen params consumed placed item j (c ∷ cs) env =
-    (not (chosen c && (first_at placed item c && not (has_number j consumed))) || holds env params c.expr) && level_test chosen params consumed placed item (j + 1) cs env
+    (not (chosen c && (first_at placed item c && not (has_number j consumed)))
+    || holds env params c.expr) && level_test chosen params consumed placed item (j + 1) cs env

@@ -1,12 +1,15 @@
-use Rattle.std.specs.Prelude.{Bool, cond, ◌||◌, Option, Some, None, true, false, not, pos, ℕ, zero, suc, List, slice_index_or, [], ◌∷◌, map}
+use Rattle.std.specs.Prelude.{Bool, cond, ◌||◌, Option, Some, None, true, false, not, pos, ℕ, zero}
+use Rattle.std.specs.Prelude.{suc, List, slice_index_or, [], ◌∷◌, map}
 use Rattle.std.specs.declared.cmp.Ordering.{Ordering}
 use Rattle.std.specs.Ordering.{is_eq, is_ne, is_lt, is_le, is_gt, is_ge}
 use Rattle.std.specs.Option.{option_map}
-use Rattle.sql_meaning.specs.Expressions.{Op, IsEqual, IsUnequal, IsBelow, IsAtMost, IsAbove, IsAtLeast, BExpr, BExprs, Lit, Param, Column, Rowid, Plus, Collate, Cmp, OneOf, IsNull, Not, All, Any, Nil, More}
+use Rattle.sql_meaning.specs.Expressions.{Op, IsEqual, IsUnequal, IsBelow, IsAtMost, IsAbove}
+use Rattle.sql_meaning.specs.Expressions.{IsAtLeast, BExpr, BExprs, Lit, Param, Column, Rowid, Plus}
+use Rattle.sql_meaning.specs.Expressions.{Collate, Cmp, OneOf, IsNull, Not, All, Any, Nil, More}
 use Rattle.sql_meaning.specs.Values.{Value, Collation, value_cmp, is_null, Null, Int}
 use Rattle.sql_meaning.specs.Truth.{truth3}
 use Rattle.sql_meaning.specs.Conversions.{converted_by}
-use Rattle.sql_meaning.specs.Rows.{AtRowid, AtColumn, Rows, cell}
+use Rattle.sql_meaning.specs.Rows.{AtRowid, AtColumn, Assignment, cell}
 
 abbrev pub op_holds : Op → Ordering → Bool
 op_holds IsEqual o = is_eq o
@@ -18,7 +21,8 @@ op_holds IsAtLeast o = is_ge o
 
 -- D3: unknown where a side_conversion is NULL
 abbrev pub compare3 : Op → Collation → Value → Value → Option Bool
-compare3 op collation left right = cond (is_null left || is_null right) None (Some (op_holds op (value_cmp collation left right)))
+compare3 op collation left right =
+    cond (is_null left || is_null right) None (Some (op_holds op (value_cmp collation left right)))
 
 abbrev pub and3 : Option Bool → Option Bool → Option Bool
 and3 (Some false) b = Some false
@@ -67,21 +71,29 @@ any3 (v ∷ vs) = or3 (truth3 v) (any3 vs)
 
 -- D4
 abbrev mutual
-  pub ev : Rows → List Value → BExpr → Value
+  pub ev : Assignment → List Value → BExpr → Value
   ev env params (Lit v) = v
   ev env params (Param number) = param_value params number
   ev env params (Column item column) = cell env item (AtColumn column)
   ev env params (Rowid item) = cell env item AtRowid
   ev env params (Plus e) = ev env params e
   ev env params (Collate e collation) = ev env params e
-  ev env params (Cmp op left right left_conversion right_conversion collation) = from_truth (compare3 op collation (converted_by left_conversion (ev env params left)) (converted_by right_conversion (ev env params right)))
-  ev env params (OneOf negated left entries entry_conversion collation) = from_truth (negated_if negated (one_of3 collation (ev env params left) (map (converted_by entry_conversion) (evs env params entries))))
-  ev env params (IsNull negated e) = from_truth (negated_if negated (Some (is_null (ev env params e))))
+  ev env params (Cmp op left right left_conversion right_conversion collation) =
+      from_truth
+      (compare3 op collation (converted_by left_conversion (ev env params left))
+      (converted_by right_conversion (ev env params right)))
+  ev env params (OneOf negated left entries entry_conversion collation) =
+      from_truth
+      (negated_if negated
+      (one_of3 collation (ev env params left)
+      (map (converted_by entry_conversion) (evs env params entries))))
+  ev env params (IsNull negated e) =
+      from_truth (negated_if negated (Some (is_null (ev env params e))))
   ev env params (Not e) = from_truth (not3 (truth3 (ev env params e)))
   ev env params (All es) = from_truth (all3 (evs env params es))
   ev env params (Any es) = from_truth (any3 (evs env params es))
 
-  pub evs : Rows → List Value → BExprs → List Value
+  pub evs : Assignment → List Value → BExprs → List Value
   evs env params Nil = []
   evs env params (More e es) = ev env params e ∷ evs env params es
 
@@ -90,7 +102,7 @@ is_true None = false
 is_true (Some b) = b
 
 -- D4's Holds
-abbrev pub holds : Rows → List Value → BExpr → Bool
+abbrev pub holds : Assignment → List Value → BExpr → Bool
 holds env params e = is_true (truth3 (ev env params e))
 
 -- the comparison is true
@@ -100,4 +112,5 @@ compares op collation left right = is_true (compare3 op collation left right)
 -- the value equals one of the keys
 abbrev pub equals_any : Collation → List Value → Value → Bool
 equals_any collation [] v = false
-equals_any collation (key ∷ keys) v = compares IsEqual collation v key || equals_any collation keys v
+equals_any collation (key ∷ keys) v =
+    compares IsEqual collation v key || equals_any collation keys v

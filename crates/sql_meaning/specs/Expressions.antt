@@ -19,8 +19,12 @@ mutual
     Rowid : (item : ℕ) → BExpr
     Plus : (e : BExpr) → BExpr
     Collate : (e : BExpr) (collation : Collation) → BExpr
-    Cmp : (op : Op) (left right : BExpr) (left_conversion right_conversion : Option Affinity) (collation : Collation) → BExpr
-    OneOf : (negated : Bool) (left : BExpr) (entries : BExprs) (entry_conversion : Option Affinity) (collation : Collation) → BExpr
+    Cmp : (op : Op) (left right : BExpr) (left_conversion right_conversion : Option Affinity)
+        (collation : Collation)
+        → BExpr
+    OneOf : (negated : Bool) (left : BExpr) (entries : BExprs) (entry_conversion : Option Affinity)
+        (collation : Collation)
+        → BExpr
     IsNull : (negated : Bool) (e : BExpr) → BExpr
     Not : (e : BExpr) → BExpr
     All : (es : BExprs) → BExpr

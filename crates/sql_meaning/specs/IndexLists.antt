@@ -1,4 +1,5 @@
-use Rattle.std.specs.Prelude.{Bool, false, true, List, [], ◌∷◌, map, Option, Some, None, ℕ, slice_get}
+use Rattle.std.specs.Prelude.{Bool, false, true, List, [], ◌∷◌, map, Option, Some, None, ℕ}
+use Rattle.std.specs.Prelude.{slice_get}
 use Rattle.std.specs.declared.cmp.Ordering.{Ordering}
 use Rattle.std.specs.Ordering.{flip_args, int_cmp, on, then_cmp}
 use Rattle.list_laws.specs.Order.{sort_by}
@@ -34,7 +35,10 @@ entries columns rows = sort_by (entry_cmp columns) rows
 
 abbrev pub index_sort_columns : Option Index → List SortColumn
 index_sort_columns None = []
-index_sort_columns (Some index) = map (λ c. record { site = AtColumn c.column; collation = c.collation; falling = c.falling }) index.columns
+index_sort_columns (Some index) =
+    map
+    (λ c. record { site = AtColumn c.column; collation = c.collation; falling = c.falling })
+    index.columns
 
 abbrev pub sort_columns : Schema → ℕ → List SortColumn
 sort_columns schema index = index_sort_columns (slice_get schema.indexes index)

@@ -3,7 +3,9 @@ use Rattle.sql_meaning.specs.Schemas.{Schema, TableColumn, column_or, column_of_
 use Rattle.sql_meaning.specs.Values.{Binary, Integer, Affinity}
 use Rattle.sql_meaning.specs.Conversions.{side_conversion}
 use Rattle.sql_meaning.specs.Rows.{Site, AtRowid, AtColumn}
-use Rattle.sql_meaning.specs.Expressions.{ColumnRef, BExpr, Column, Rowid, Collate, Lit, Param, Plus, Cmp, OneOf, IsNull, Not, All, Any, BExprs, Nil, More}
+use Rattle.sql_meaning.specs.Expressions.{ColumnRef, BExpr, Column, Rowid, Collate, Lit, Param}
+use Rattle.sql_meaning.specs.Expressions.{Plus, Cmp, OneOf, IsNull, Not, All, Any, BExprs, Nil}
+use Rattle.sql_meaning.specs.Expressions.{More}
 
 pub record Item : Type 0 where
   pub table : ℕ
@@ -24,7 +26,8 @@ own_column schema items c = own_at schema (slice_get items c.item) c.site
 
 -- 5.2's affinity of an expression
 abbrev pub expr_affinity : Schema → List Item → BExpr → Option Affinity
-expr_affinity schema items (Column item column) = Some (own_column schema items (record { item = item; site = AtColumn column })).affinity
+expr_affinity schema items (Column item column) =
+    Some (own_column schema items (record { item = item; site = AtColumn column })).affinity
 expr_affinity schema items (Rowid item) = Some Integer
 expr_affinity schema items (Collate e collation) = expr_affinity schema items e
 expr_affinity schema items e = None
@@ -38,8 +41,15 @@ abbrev mutual
   FitsExpr schema items (Rowid item) = Unit {0}
   FitsExpr schema items (Plus e) = FitsExpr schema items e
   FitsExpr schema items (Collate e collation) = FitsExpr schema items e
-  FitsExpr schema items (Cmp op left right left_conversion right_conversion collation) = (left_conversion ≡ side_conversion (expr_affinity schema items left) (expr_affinity schema items right)) × (right_conversion ≡ side_conversion (expr_affinity schema items right) (expr_affinity schema items left)) × FitsExpr schema items left × FitsExpr schema items right
-  FitsExpr schema items (OneOf negated left entries entry_conversion collation) = (entry_conversion ≡ side_conversion None (expr_affinity schema items left)) × FitsExpr schema items left × FitsExprs schema items entries
+  FitsExpr schema items (Cmp op left right left_conversion right_conversion collation) =
+      (left_conversion
+      ≡ side_conversion (expr_affinity schema items left) (expr_affinity schema items right))
+      × (right_conversion
+      ≡ side_conversion (expr_affinity schema items right) (expr_affinity schema items left))
+      × FitsExpr schema items left × FitsExpr schema items right
+  FitsExpr schema items (OneOf negated left entries entry_conversion collation) =
+      (entry_conversion ≡ side_conversion None (expr_affinity schema items left))
+      × FitsExpr schema items left × FitsExprs schema items entries
   FitsExpr schema items (IsNull negated e) = FitsExpr schema items e
   FitsExpr schema items (Not e) = FitsExpr schema items e
   FitsExpr schema items (All es) = FitsExprs schema items es

@@ -2,14 +2,17 @@ use Rattle.std.specs.Prelude.{◌≡◌, ℕ, false, List, [], ◌∷◌, ◌≢
 use Rattle.std.specs.List.{AllByRecursion}
 use Rattle.list_laws.specs.Nest.{Rearranges}
 use Rattle.sql_meaning.specs.Schemas.{Schema, AliasHolds, RisingRows}
-use Rattle.sql_meaning.specs.Statements.{Bound, has_number, item_alias, FitsStatement, all_in, is_left, numbers_from, OwnersAreLeft, item_rows}
+use Rattle.sql_meaning.specs.Statements.{Bound, has_number, item_alias, FitsStatement, all_in}
+use Rattle.sql_meaning.specs.Statements.{is_left, numbers_from, OwnersAreLeft, item_rows}
 use Rattle.sql_meaning.specs.Plans.{Loop, Plan}
 use Rattle.sql_meaning.specs.UsedTerms.{Used, PathCarries, UsedPlaced, UsedComes, Consumes}
 use Rattle.sql_meaning.specs.Expressions.{names}
 use Rattle.sql_meaning.specs.Rows.{Row}
 
--- D20, as far as the laws need it: the path carries terms of the item whose other items are placed, and consumes direct ones alone
-pub record IsOffer (schema : Schema) (bound : Bound) (placed : List ℕ) (loop : Loop) (used : Used) : Type 0 where
+-- D20, as far as the laws need it: the path carries terms of the item whose other items are placed,
+-- and consumes direct ones alone
+pub record IsOffer (schema : Schema) (bound : Bound) (placed : List ℕ) (loop : Loop) (used : Used) :
+    Type 0 where
   pub fits : FitsStatement schema bound
   pub unplaced : has_number loop.item placed ≡ false
   pub carries : PathCarries schema (item_alias schema bound loop.item) loop.path used
@@ -20,23 +23,27 @@ pub record IsOffer (schema : Schema) (bound : Bound) (placed : List ℕ) (loop :
 -- an offer for each loop, after the items placed before
 abbrev pub AreOffers : Schema → Bound → List ℕ → List Loop → (Loop → Used) → Type 0
 AreOffers schema bound placed [] used = Unit {0}
-AreOffers schema bound placed (l ∷ ls) used = IsOffer schema bound placed l (used l) × AreOffers schema bound (l.item ∷ placed) ls used
+AreOffers schema bound placed (l ∷ ls) used =
+    IsOffer schema bound placed l (used l) × AreOffers schema bound (l.item ∷ placed) ls used
 
 abbrev pub loop_items : List Loop → List ℕ
 loop_items [] = []
 loop_items (l ∷ ls) = l.item ∷ loop_items ls
 
--- the plan fits: each item stands in one loop, where only items that aren't LEFT change places, each by an offer; and conjuncts name items of the
--- statement alone
+-- the plan fits: each item stands in one loop, where only items that aren't LEFT change places,
+-- each by an offer; and conjuncts name items of the statement alone
 pub record FitsOffers (schema : Schema) (plan : Plan) : Type 0 where
   pub used : Loop → Used
-  pub once : Rearranges (λ i. not (is_left plan.bound i)) (loop_items plan.loops) (numbers_from 0 (length plan.bound.items))
+  pub once : Rearranges (λ i. not (is_left plan.bound i)) (loop_items plan.loops)
+      (numbers_from 0 (length plan.bound.items))
   pub offered : AreOffers schema plan.bound [] plan.loops used
   pub some : plan.loops ≢ []
-  pub named : AllByRecursion (λ c. all_in (names c.expr) (loop_items plan.loops) ≡ true) plan.bound.conjuncts
+  pub named : AllByRecursion
+      (λ c. all_in (names c.expr) (loop_items plan.loops) ≡ true) plan.bound.conjuncts
   pub owners : OwnersAreLeft plan.bound
 
 -- D7, as far as the laws need it: rowids rise strictly, and the alias column holds Int of the rowid
 pub record IsDatabase (schema : Schema) (bound : Bound) (database : List (List Row)) : Type 0 where
   pub rising : (item : ℕ) → RisingRows (item_rows database bound item)
-  pub aliased : (item : ℕ) → AllByRecursion (AliasHolds (item_alias schema bound item)) (item_rows database bound item)
+  pub aliased : (item : ℕ)
+      → AllByRecursion (AliasHolds (item_alias schema bound item)) (item_rows database bound item)

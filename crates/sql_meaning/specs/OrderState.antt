@@ -1,14 +1,17 @@
-use Rattle.std.specs.Prelude.{Bool, true, false, ℕ, ◌==◌, Option, Some, None, cond, List, [], ◌∷◌, slice_get, ◌&&◌, ◌||◌, not, ◌+◌, ◌-◌, length, ◌≡◌, map}
+use Rattle.std.specs.Prelude.{Bool, true, false, ℕ, ◌==◌, Option, Some, None, cond, List, [], ◌∷◌}
+use Rattle.std.specs.Prelude.{slice_get, ◌&&◌, ◌||◌, not, ◌+◌, ◌-◌, length, ◌≡◌, map}
 use Rattle.sql_meaning.specs.Values.{Collation, Binary}
 use Rattle.sql_meaning.specs.Rows.{Site, AtRowid, AtColumn}
-use Rattle.sql_meaning.specs.Paths.{EqPart, OneKey, ManyKeys, NullKey, Path, TableScan, RowidEq, RowidRange, IndexScan, IndexSeek, Union}
+use Rattle.sql_meaning.specs.Paths.{EqPart, OneKey, ManyKeys, NullKey, Path, TableScan, RowidEq}
+use Rattle.sql_meaning.specs.Paths.{RowidRange, IndexScan, IndexSeek, Union}
 use Rattle.sql_meaning.specs.Schemas.{IndexColumn, Index, Schema}
 use Rattle.sql_meaning.specs.Orders.{same_collation, same_site, same_flag}
 use Rattle.sql_meaning.specs.Expressions.{ColumnRef, bare_column}
 use Rattle.sql_meaning.specs.Statements.{SortKey, Bound, item_alias}
 use Rattle.sql_meaning.specs.Plans.{Loop, Plan}
 
--- a position of a path: a column with collation and direction, and whether a One or Null part holds it
+-- a position of a path: a column with collation and direction, and whether a One or Null part holds
+-- it
 pub record Position : Type 0 where
   pub site : Site
   pub collation : Collation
@@ -36,32 +39,49 @@ abbrev pub first_held : List EqPart → Bool
 first_held [] = false
 first_held (p ∷ ps) = is_one_key p
 
--- the index columns, then the rowid rising; where the alias is an index column, its position is the last one
+-- the index columns, then the rowid rising; where the alias is an index column, its position is the
+-- last one
 abbrev pub index_positions : Option ℕ → List IndexColumn → List EqPart → List Position
-index_positions alias [] eqs = record { site = AtRowid; collation = Binary; falling = false; held = false } ∷ []
+index_positions alias [] eqs =
+    record { site = AtRowid; collation = Binary; falling = false; held = false } ∷ []
 index_positions alias (c ∷ cs) eqs =
-    record { site = column_site alias c.column; collation = c.collation; falling = c.falling; held = first_held eqs } ∷ cond (is_alias alias c.column) [] (index_positions alias cs (rest_parts eqs))
+    record {
+      site = column_site alias c.column;
+      collation = c.collation;
+      falling = c.falling;
+      held =
+          first_held eqs;
+    } ∷ cond (is_alias alias c.column) [] (index_positions alias cs (rest_parts eqs))
 
 abbrev pub columns_at : Option Index → List IndexColumn
 columns_at None = []
 columns_at (Some index) = index.columns
 
 abbrev pub positions : Schema → Option ℕ → Path → List Position
-positions schema alias TableScan = record { site = AtRowid; collation = Binary; falling = false; held = false } ∷ []
-positions schema alias (RowidEq part) = record { site = AtRowid; collation = Binary; falling = false; held = is_one_key part } ∷ []
-positions schema alias (RowidRange low high) = record { site = AtRowid; collation = Binary; falling = false; held = false } ∷ []
-positions schema alias (IndexScan index) = index_positions alias (columns_at (slice_get schema.indexes index)) []
-positions schema alias (IndexSeek index eqs low high) = index_positions alias (columns_at (slice_get schema.indexes index)) eqs
+positions schema alias TableScan =
+    record { site = AtRowid; collation = Binary; falling = false; held = false } ∷ []
+positions schema alias (RowidEq part) =
+    record { site = AtRowid; collation = Binary; falling = false; held = is_one_key part } ∷ []
+positions schema alias (RowidRange low high) =
+    record { site = AtRowid; collation = Binary; falling = false; held = false } ∷ []
+positions schema alias (IndexScan index) =
+    index_positions alias (columns_at (slice_get schema.indexes index)) []
+positions schema alias (IndexSeek index eqs low high) =
+    index_positions alias (columns_at (slice_get schema.indexes index)) eqs
 positions schema alias (Union branches) = []
 
 -- a One or Null part holds this column under this collation
 abbrev pub part_held : Option ℕ → List IndexColumn → List EqPart → Site → Collation → Bool
 part_held alias [] eqs site collation = false
 part_held alias (c ∷ cs) [] site collation = false
-part_held alias (c ∷ cs) (p ∷ ps) site collation = (is_one_key p && (same_site (column_site alias c.column) site && same_collation c.collation collation)) || part_held alias cs ps site collation
+part_held alias (c ∷ cs) (p ∷ ps) site collation =
+    (is_one_key p
+    && (same_site (column_site alias c.column) site && same_collation c.collation collation))
+    || part_held alias cs ps site collation
 
 abbrev pub path_held : Schema → Option ℕ → Path → Site → Collation → Bool
-path_held schema alias (IndexSeek index eqs low high) site collation = part_held alias (columns_at (slice_get schema.indexes index)) eqs site collation
+path_held schema alias (IndexSeek index eqs low high) site collation =
+    part_held alias (columns_at (slice_get schema.indexes index)) eqs site collation
 path_held schema alias path site collation = false
 
 abbrev pub on_item : ℕ → Option ColumnRef → Bool
@@ -74,17 +94,21 @@ test_column item test (Some c) = (c.item == item) && test c.site
 
 -- the key is a column of this item that a One or Null part holds with equal collation
 abbrev pub key_held : Schema → Option ℕ → ℕ → Path → SortKey → Bool
-key_held schema alias item path k = test_column item (λ site. path_held schema alias path site k.collation) (bare_column k.expr)
+key_held schema alias item path k =
+    test_column item (λ site. path_held schema alias path site k.collation) (bare_column k.expr)
 
 -- the key is that column with equal collation
 abbrev pub key_matches : ℕ → Position → SortKey → Bool
-key_matches item p k = test_column item (λ site. same_site p.site site && same_collation p.collation k.collation) (bare_column k.expr)
+key_matches item p k =
+    test_column item (λ site. same_site p.site site && same_collation p.collation k.collation)
+    (bare_column k.expr)
 
 -- walked backward, the position goes the key's way
 abbrev pub needs_backward : Position → SortKey → Bool
 needs_backward p k = not (same_flag k.falling p.falling)
 
--- what a loop makes of the keys: it loses the order, or passes keys, in a direction once a match fixed it
+-- what a loop makes of the keys: it loses the order, or passes keys, in a direction once a match
+-- fixed it
 pub data Passing : Type 0 where
   Loses : Passing
   Leaves : (keys : List SortKey) (direction : Option Bool) → Passing
@@ -98,16 +122,23 @@ abbrev pub with_direction : Option Bool → Bool → (Bool → Passing) → Pass
 with_direction None needed go = go needed
 with_direction (Some d) needed go = cond (same_flag d needed) (go d) Loses
 
-abbrev pub at_position : ℕ → Option Bool → Position → (Option Bool → List SortKey → Passing) → List SortKey → Passing
+abbrev pub at_position : ℕ → Option Bool → Position → (Option Bool → List SortKey → Passing)
+    → List SortKey → Passing
 at_position item direction p go [] = Leaves [] direction
-at_position item direction p go (k ∷ ks) = cond p.held (go direction (k ∷ ks)) (cond (key_matches item p k) (with_direction direction (needs_backward p k) (λ d. go (Some d) ks)) Loses)
+at_position item direction p go (k ∷ ks) =
+    cond p.held (go direction (k ∷ ks))
+    (cond (key_matches item p k)
+    (with_direction direction (needs_backward p k) (λ d. go (Some d) ks)) Loses)
 
--- at each position: first the held keys are passed, then the position where it is held, else the next key must be that column
+-- at each position: first the held keys are passed, then the position where it is held, else the
+-- next key must be that column
 abbrev pub pass : ℕ → (SortKey → Bool) → List Position → Option Bool → List SortKey → Passing
 pass item held [] direction keys = Leaves keys direction
-pass item held (p ∷ ps) direction keys = at_position item direction p (pass item held ps) (drop_held held keys)
+pass item held (p ∷ ps) direction keys =
+    at_position item direction p (pass item held ps) (drop_held held keys)
 
--- a RowidEq that is One or Null counts as one with one key: it passes each next key that is a column of this item
+-- a RowidEq that is One or Null counts as one with one key: it passes each next key that is a
+-- column of this item
 abbrev pub is_single : Path → Bool
 is_single (RowidEq part) = is_one_key part
 is_single path = false
@@ -118,7 +149,11 @@ lost_by path = false
 
 abbrev pub loop_passes : Schema → Bound → Loop → List SortKey → Passing
 loop_passes schema bound loop keys =
-    cond (lost_by loop.path) Loses (cond (is_single loop.path) (Leaves (drop_held (λ k. on_item loop.item (bare_column k.expr)) keys) None) (pass loop.item (key_held schema (item_alias schema bound loop.item) loop.item loop.path) (positions schema (item_alias schema bound loop.item) loop.path) None keys))
+    cond (lost_by loop.path) Loses
+    (cond (is_single loop.path)
+    (Leaves (drop_held (λ k. on_item loop.item (bare_column k.expr)) keys) None)
+    (pass loop.item (key_held schema (item_alias schema bound loop.item) loop.item loop.path)
+    (positions schema (item_alias schema bound loop.item) loop.path) None keys))
 
 -- D16's state: done, lost, or open with the keys that are left
 pub data State : Type 0 where
@@ -134,7 +169,8 @@ after_passing (Leaves keys direction) go = go keys
 abbrev pub state : Schema → Bound → List Loop → List SortKey → State
 state schema bound loops [] = Done
 state schema bound [] (k ∷ ks) = Open (k ∷ ks)
-state schema bound (l ∷ ls) (k ∷ ks) = after_passing (loop_passes schema bound l (k ∷ ks)) (state schema bound ls)
+state schema bound (l ∷ ls) (k ∷ ks) =
+    after_passing (loop_passes schema bound l (k ∷ ks)) (state schema bound ls)
 
 -- 5.8's numbers: Done 0, Lost 1, Open(j) 2 + j, where j keys are passed
 abbrev pub state_number : List SortKey → State → ℕ
@@ -159,10 +195,14 @@ directions_after (Leaves keys direction) go = backward direction ∷ go keys
 abbrev pub directions : Schema → Bound → List Loop → List SortKey → List Bool
 directions schema bound [] keys = []
 directions schema bound (l ∷ ls) [] = false ∷ directions schema bound ls []
-directions schema bound (l ∷ ls) (k ∷ ks) = directions_after (loop_passes schema bound l (k ∷ ks)) (directions schema bound ls)
+directions schema bound (l ∷ ls) (k ∷ ks) =
+    directions_after (loop_passes schema bound l (k ∷ ks)) (directions schema bound ls)
 
--- `sort` is set exactly where the state isn't Done, and `reverse` exactly where it is and the loop's direction is backward
+-- `sort` is set exactly where the state isn't Done, and `reverse` exactly where it is and the
+-- loop's direction is backward
 pub record FitsOrder (schema : Schema) (plan : Plan) : Type 0 where
   pub sorts : plan.sort ≡ not (is_done (state schema plan.bound plan.loops plan.bound.keys))
-  pub reverses : is_done (state schema plan.bound plan.loops plan.bound.keys) ≡ true → map (λ l. l.reverse) plan.loops ≡ directions schema plan.bound plan.loops plan.bound.keys
-  pub forward : is_done (state schema plan.bound plan.loops plan.bound.keys) ≡ false → map (λ l. l.reverse) plan.loops ≡ map (λ l. false) plan.loops
+  pub reverses : is_done (state schema plan.bound plan.loops plan.bound.keys) ≡ true
+      → map (λ l. l.reverse) plan.loops ≡ directions schema plan.bound plan.loops plan.bound.keys
+  pub forward : is_done (state schema plan.bound plan.loops plan.bound.keys) ≡ false
+      → map (λ l. l.reverse) plan.loops ≡ map (λ l. false) plan.loops

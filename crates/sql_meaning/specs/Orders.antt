@@ -3,14 +3,15 @@ use Rattle.std.specs.declared.cmp.Ordering.{Ordering}
 use Rattle.std.specs.declared.cmp.Ordering.TheVariants.{Equal}
 use Rattle.std.specs.Ordering.{ordering_then}
 use Rattle.sql_meaning.specs.Values.{Value, value_cmp, Collation, Binary, Nocase, Rtrim}
-use Rattle.sql_meaning.specs.Rows.{Rows, Site, AtRowid, AtColumn}
+use Rattle.sql_meaning.specs.Rows.{Assignment, Site, AtRowid, AtColumn}
 use Rattle.sql_meaning.specs.Evaluation.{ev}
 use Rattle.sql_meaning.specs.IndexLists.{directed}
 use Rattle.sql_meaning.specs.Statements.{SortKey}
 
 -- D10: keys compare under D1, each with its collation and direction
-abbrev pub key_cmp : List Value → SortKey → Rows → Rows → Ordering
-key_cmp params k a b = directed k.falling (value_cmp k.collation) (ev a params k.expr) (ev b params k.expr)
+abbrev pub key_cmp : List Value → SortKey → Assignment → Assignment → Ordering
+key_cmp params k a b =
+    directed k.falling (value_cmp k.collation) (ev a params k.expr) (ev b params k.expr)
 
 -- by each element in turn
 abbrev pub lex_of : {K : Type 0} → (K → Ordering) → List K → Ordering
@@ -18,7 +19,7 @@ lex_of f [] = Equal
 lex_of f (k ∷ ks) = ordering_then (f k) (lex_of f ks)
 
 -- D10's order of assignments: by each key in turn
-abbrev pub by_keys : List Value → List SortKey → Rows → Rows → Ordering
+abbrev pub by_keys : List Value → List SortKey → Assignment → Assignment → Ordering
 by_keys params ks a b = lex_of (λ k. key_cmp params k a b) ks
 
 abbrev pub same_collation : Collation → Collation → Bool

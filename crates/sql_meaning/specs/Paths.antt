@@ -1,10 +1,11 @@
-use Rattle.std.specs.Prelude.{Option, List, Bool, ℕ, map, Some, None, [], ◌∷◌, ◌++◌, false, ◌||◌, true}
+use Rattle.std.specs.Prelude.{Option, List, Bool, ℕ, map, Some, None, [], ◌∷◌, ◌++◌, false, ◌||◌}
+use Rattle.std.specs.Prelude.{true}
 use Rattle.std.specs.Ordering.{int_cmp, on, eq_by_cmp}
 use Rattle.list_laws.specs.FirstComing.{keep_first}
 use Rattle.sql_meaning.specs.Values.{Affinity, Value}
 use Rattle.sql_meaning.specs.Conversions.{converted_by}
 use Rattle.sql_meaning.specs.Expressions.{BExpr}
-use Rattle.sql_meaning.specs.Rows.{Rows, Row}
+use Rattle.sql_meaning.specs.Rows.{Assignment, Row}
 use Rattle.sql_meaning.specs.Evaluation.{ev}
 use Rattle.sql_meaning.specs.Walks.{Part, One, Many, NullPart, End, seek, parts_hold}
 use Rattle.sql_meaning.specs.IndexLists.{SortColumn, by_rowid, sort_columns, entries}
@@ -38,17 +39,18 @@ mutual
     Nowhere : Paths
     Then : (path : Path) (paths : Paths) → Paths
 
-abbrev pub key_value : Rows → List Value → KeyExpr → Value
+abbrev pub key_value : Assignment → List Value → KeyExpr → Value
 key_value env params k = converted_by k.conversion (ev env params k.expr)
 
-abbrev pub part_value : Rows → List Value → EqPart → Part
+abbrev pub part_value : Assignment → List Value → EqPart → Part
 part_value env params (OneKey key) = One (key_value env params key)
 part_value env params (ManyKeys keys) = Many (map (key_value env params) keys)
 part_value env params NullKey = NullPart
 
-abbrev pub end_value : Rows → List Value → Option Edge → Option End
+abbrev pub end_value : Assignment → List Value → Option Edge → Option End
 end_value env params None = None
-end_value env params (Some e) = Some (record { key = key_value env params e.key; inclusive = e.inclusive })
+end_value env params (Some e) =
+    Some (record { key = key_value env params e.key; inclusive = e.inclusive })
 
 -- what a path that isn't a union seeks along and by
 pub record SeekForm : Type 0 where
@@ -59,10 +61,14 @@ pub record SeekForm : Type 0 where
 
 abbrev pub form_of : Schema → Path → SeekForm
 form_of schema TableScan = record { columns = []; eqs = []; low = None; high = None }
-form_of schema (RowidEq part) = record { columns = by_rowid ∷ []; eqs = part ∷ []; low = None; high = None }
-form_of schema (RowidRange low high) = record { columns = by_rowid ∷ []; eqs = []; low = low; high = high }
-form_of schema (IndexScan index) = record { columns = sort_columns schema index; eqs = []; low = None; high = None }
-form_of schema (IndexSeek index eqs low high) = record { columns = sort_columns schema index; eqs = eqs; low = low; high = high }
+form_of schema (RowidEq part) =
+    record { columns = by_rowid ∷ []; eqs = part ∷ []; low = None; high = None }
+form_of schema (RowidRange low high) =
+    record { columns = by_rowid ∷ []; eqs = []; low = low; high = high }
+form_of schema (IndexScan index) =
+    record { columns = sort_columns schema index; eqs = []; low = None; high = None }
+form_of schema (IndexSeek index eqs low high) =
+    record { columns = sort_columns schema index; eqs = eqs; low = low; high = high }
 form_of schema (Union branches) = record { columns = []; eqs = []; low = None; high = None }
 
 -- the list that a path goes along: the rows by rowid, or D8's list
@@ -74,42 +80,62 @@ path_list schema (IndexScan index) rows = entries (sort_columns schema index) ro
 path_list schema (IndexSeek index eqs low high) rows = entries (sort_columns schema index) rows
 path_list schema (Union branches) rows = rows
 
-abbrev pub form_walk : SeekForm → List Value → Rows → List Row → List Row
-form_walk f params env rows = seek f.columns (map (part_value env params) f.eqs) (end_value env params f.low) (end_value env params f.high) rows
+abbrev pub form_walk : SeekForm → List Value → Assignment → List Row → List Row
+form_walk f params env rows =
+    seek f.columns (map (part_value env params) f.eqs) (end_value env params f.low)
+    (end_value env params f.high) rows
 
-abbrev pub form_holds : SeekForm → List Value → Rows → Row → Bool
-form_holds f params env row = parts_hold f.columns (map (part_value env params) f.eqs) (end_value env params f.low) (end_value env params f.high) row
+abbrev pub form_holds : SeekForm → List Value → Assignment → Row → Bool
+form_holds f params env row =
+    parts_hold f.columns (map (part_value env params) f.eqs) (end_value env params f.low)
+    (end_value env params f.high) row
 
 abbrev pub same_rowid : Row → Row → Bool
 same_rowid = eq_by_cmp (on (λ row. row.rowid) int_cmp)
 
--- D14: the walk of a path for given rows of the placed items; a union walks its branches in turn and keeps each rowid at its first coming
+-- D14: the walk of a path for given rows of the placed items; a union walks its branches in turn
+-- and keeps each rowid at its first coming
 abbrev mutual
-  pub walk : Schema → List Value → Path → List Row → Rows → List Row
-  walk schema params TableScan rows env = form_walk (form_of schema TableScan) params env (path_list schema TableScan rows)
-  walk schema params (RowidEq part) rows env = form_walk (form_of schema (RowidEq part)) params env (path_list schema (RowidEq part) rows)
-  walk schema params (RowidRange low high) rows env = form_walk (form_of schema (RowidRange low high)) params env (path_list schema (RowidRange low high) rows)
-  walk schema params (IndexScan index) rows env = form_walk (form_of schema (IndexScan index)) params env (path_list schema (IndexScan index) rows)
-  walk schema params (IndexSeek index eqs low high) rows env = form_walk (form_of schema (IndexSeek index eqs low high)) params env (path_list schema (IndexSeek index eqs low high) rows)
-  walk schema params (Union branches) rows env = keep_first same_rowid [] (walks schema params branches rows env)
+  pub walk : Schema → List Value → Path → List Row → Assignment → List Row
+  walk schema params TableScan rows env =
+      form_walk (form_of schema TableScan) params env (path_list schema TableScan rows)
+  walk schema params (RowidEq part) rows env =
+      form_walk (form_of schema (RowidEq part)) params env (path_list schema (RowidEq part) rows)
+  walk schema params (RowidRange low high) rows env =
+      form_walk (form_of schema (RowidRange low high)) params env
+      (path_list schema (RowidRange low high) rows)
+  walk schema params (IndexScan index) rows env =
+      form_walk (form_of schema (IndexScan index)) params env
+      (path_list schema (IndexScan index) rows)
+  walk schema params (IndexSeek index eqs low high) rows env =
+      form_walk (form_of schema (IndexSeek index eqs low high)) params env
+      (path_list schema (IndexSeek index eqs low high) rows)
+  walk schema params (Union branches) rows env =
+      keep_first same_rowid [] (walks schema params branches rows env)
 
-  pub walks : Schema → List Value → Paths → List Row → Rows → List Row
+  pub walks : Schema → List Value → Paths → List Row → Assignment → List Row
   walks schema params Nowhere rows env = []
-  walks schema params (Then path paths) rows env = walk schema params path rows env ++ walks schema params paths rows env
+  walks schema params (Then path paths) rows env =
+      walk schema params path rows env ++ walks schema params paths rows env
 
 -- each key that the path carries is true of the row; of a union, in some branch
 abbrev mutual
-  pub carried : Schema → List Value → Path → Rows → Row → Bool
+  pub carried : Schema → List Value → Path → Assignment → Row → Bool
   carried schema params TableScan env row = form_holds (form_of schema TableScan) params env row
-  carried schema params (RowidEq part) env row = form_holds (form_of schema (RowidEq part)) params env row
-  carried schema params (RowidRange low high) env row = form_holds (form_of schema (RowidRange low high)) params env row
-  carried schema params (IndexScan index) env row = form_holds (form_of schema (IndexScan index)) params env row
-  carried schema params (IndexSeek index eqs low high) env row = form_holds (form_of schema (IndexSeek index eqs low high)) params env row
+  carried schema params (RowidEq part) env row =
+      form_holds (form_of schema (RowidEq part)) params env row
+  carried schema params (RowidRange low high) env row =
+      form_holds (form_of schema (RowidRange low high)) params env row
+  carried schema params (IndexScan index) env row =
+      form_holds (form_of schema (IndexScan index)) params env row
+  carried schema params (IndexSeek index eqs low high) env row =
+      form_holds (form_of schema (IndexSeek index eqs low high)) params env row
   carried schema params (Union branches) env row = any_carried schema params branches env row
 
-  pub any_carried : Schema → List Value → Paths → Rows → Row → Bool
+  pub any_carried : Schema → List Value → Paths → Assignment → Row → Bool
   any_carried schema params Nowhere env row = false
-  any_carried schema params (Then path paths) env row = carried schema params path env row || any_carried schema params paths env row
+  any_carried schema params (Then path paths) env row =
+      carried schema params path env row || any_carried schema params paths env row
 
 abbrev pub is_union : Path → Bool
 is_union TableScan = false

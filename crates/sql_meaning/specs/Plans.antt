@@ -2,8 +2,9 @@ use Rattle.std.specs.Prelude.{ℕ, Bool, List, reverse, true, false, Option, map
 use Rattle.std.specs.List.{filter, flat_map}
 use Rattle.list_laws.specs.Nest.{place, Step, nested}
 use Rattle.sql_meaning.specs.Paths.{Path, walk}
-use Rattle.sql_meaning.specs.Statements.{Bound, or_missing, is_left, owned_by, item_rows, is_common, no_rows}
-use Rattle.sql_meaning.specs.Rows.{Row, Rows}
+use Rattle.sql_meaning.specs.Statements.{Bound, or_missing, is_left, owned_by, item_rows, is_common}
+use Rattle.sql_meaning.specs.Statements.{no_rows}
+use Rattle.sql_meaning.specs.Rows.{Row, Assignment}
 use Rattle.sql_meaning.specs.Values.{Value}
 use Rattle.sql_meaning.specs.Schemas.{Schema}
 use Rattle.sql_meaning.specs.Conjuncts.{level_test}
@@ -27,14 +28,23 @@ abbrev pub missing_if : Bool → List (Option Row) → List (Option Row)
 missing_if true xs = or_missing xs
 missing_if false xs = xs
 
--- D15 with R15: the rows of the walk are kept on which the conjuncts owned by this item hold; at a LEFT item, where no row is kept, the missing
--- row stands once
-abbrev pub loop_walk : Schema → List (List Row) → Bound → List Value → List ℕ → List ℕ → Loop → Rows → List (Option Row)
+-- D15 with R15: the rows of the walk are kept on which the conjuncts owned by this item hold; at a
+-- LEFT item, where no row is kept, the missing row stands once
+abbrev pub loop_walk : Schema → List (List Row) → Bound → List Value → List ℕ → List ℕ → Loop
+    → Assignment → List (Option Row)
 loop_walk schema database bound params consumed placed loop env =
-    missing_if (is_left bound loop.item) (filter (λ x. level_test (λ c. owned_by loop.item c.owner) params consumed placed loop.item 0 bound.conjuncts (place env loop.item x)) (map Some (directed_walk loop.reverse (walk schema params loop.path (item_rows database bound loop.item) env))))
+    missing_if (is_left bound loop.item)
+    (filter
+    (λ x. level_test
+    (λ c. owned_by loop.item c.owner) params consumed placed loop.item 0 bound.conjuncts
+    (place env loop.item x))
+    (map Some
+    (directed_walk loop.reverse
+    (walk schema params loop.path (item_rows database bound loop.item) env))))
 
 -- then the common conjuncts of this level are tested; `used` is for the laws alone
-abbrev pub step_of : Schema → List (List Row) → Bound → List Value → List ℕ → List ℕ → Loop → (Rows → Bool) → Step (Option Row)
+abbrev pub step_of : Schema → List (List Row) → Bound → List Value → List ℕ → List ℕ → Loop
+    → (Assignment → Bool) → Step (Option Row)
 step_of schema database bound params consumed placed loop used = record {
   item = loop.item;
   walk = loop_walk schema database bound params consumed placed loop;
@@ -42,18 +52,23 @@ step_of schema database bound params consumed placed loop used = record {
   test = level_test is_common params consumed placed loop.item 0 bound.conjuncts;
 }
 
-abbrev pub always : Rows → Bool
+abbrev pub always : Assignment → Bool
 always env = true
 
 abbrev pub consumed_by : List Loop → List ℕ
 consumed_by loops = flat_map (λ l. l.consumed) loops
 
 -- a step for each loop, after the items placed before
-abbrev pub steps_of : Schema → List (List Row) → Bound → List Value → List ℕ → (Loop → Rows → Bool) → List ℕ → List Loop → List (Step (Option Row))
+abbrev pub steps_of : Schema → List (List Row) → Bound → List Value → List ℕ
+    → (Loop → Assignment → Bool) → List ℕ → List Loop → List (Step (Option Row))
 steps_of schema database bound params consumed used placed [] = []
 steps_of schema database bound params consumed used placed (l ∷ ls) =
-    step_of schema database bound params consumed placed l (used l) ∷ steps_of schema database bound params consumed used (l.item ∷ placed) ls
+    step_of schema database bound params consumed placed l (used l)
+    ∷ steps_of schema database bound params consumed used (l.item ∷ placed) ls
 
 -- the nested walks in plan order
-abbrev pub plan_walks : Schema → List (List Row) → Plan → List Value → List Rows
-plan_walks schema database plan params = nested (steps_of schema database plan.bound params (consumed_by plan.loops) (λ l. always) [] plan.loops) (no_rows plan.bound)
+abbrev pub plan_walks : Schema → List (List Row) → Plan → List Value → List Assignment
+plan_walks schema database plan params =
+    nested
+    (steps_of schema database plan.bound params (consumed_by plan.loops)
+    (λ l. always) [] plan.loops) (no_rows plan.bound)

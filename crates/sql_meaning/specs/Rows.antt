@@ -16,8 +16,8 @@ site_value AtRowid row = Int row.rowid
 site_value (AtColumn column) row = slice_index_or row.values column Null
 
 -- for each FROM item a row, the missing row, or nothing where the item isn't placed
-abbrev pub Rows : Type 0
-Rows = Env (Option Row)
+abbrev pub Assignment : Type 0
+Assignment = Env (Option Row)
 
 -- a column of the missing row is NULL
 abbrev pub row_value : Site → Option (Option Row) → Value
@@ -25,5 +25,5 @@ row_value site None = Null
 row_value site (Some None) = Null
 row_value site (Some (Some row)) = site_value site row
 
-abbrev pub cell : Rows → ℕ → Site → Value
+abbrev pub cell : Assignment → ℕ → Site → Value
 cell env item site = row_value site (slice_index_or env item None)

@@ -1,14 +1,17 @@
-use Rattle.std.specs.Prelude.{ℕ, Option, Bool, ℤ, List, false, ◌||◌, ◌==◌, [], ◌∷◌, true, ◌&&◌, Some, None, slice_get, not, slice_index_or, cond, map, zero, suc, ◌+◌, length, replicate, ◌≡◌, pos, negsuc, take, drop}
+use Rattle.std.specs.Prelude.{ℕ, Option, Bool, ℤ, List, false, ◌||◌, ◌==◌, [], ◌∷◌, true, ◌&&◌}
+use Rattle.std.specs.Prelude.{Some, None, slice_get, not, slice_index_or, cond, map, zero, suc, ◌+◌}
+use Rattle.std.specs.Prelude.{length, replicate, ◌≡◌, pos, negsuc, take, drop}
 use Rattle.std.specs.List.{filter, AllByRecursion}
 use Rattle.list_laws.specs.Nest.{place, product}
 use Rattle.sql_meaning.specs.Expressions.{BExpr}
 use Rattle.sql_meaning.specs.Values.{Collation, Value, Null, Int, Dec, Text, Blob}
 use Rattle.sql_meaning.specs.Items.{Item, FitsExpr}
-use Rattle.sql_meaning.specs.Rows.{Rows, Row, AtRowid, cell}
+use Rattle.sql_meaning.specs.Rows.{Assignment, Row, AtRowid, cell}
 use Rattle.sql_meaning.specs.Evaluation.{holds, param_value, ev}
 use Rattle.sql_meaning.specs.Schemas.{Schema, alias_of}
 
--- a conjunct from the ON condition of a LEFT item has that item as its owner; every other one is common
+-- a conjunct from the ON condition of a LEFT item has that item as its owner; every other one is
+-- common
 pub record Conjunct : Type 0 where
   pub expr : BExpr
   pub owner : Option ℕ
@@ -63,9 +66,10 @@ abbrev pub is_common : Conjunct → Bool
 is_common c = no_owner c.owner
 
 -- the chosen ones of the conjuncts hold
-abbrev pub chosen_hold : (Conjunct → Bool) → List Value → List Conjunct → Rows → Bool
+abbrev pub chosen_hold : (Conjunct → Bool) → List Value → List Conjunct → Assignment → Bool
 chosen_hold chosen params [] env = true
-chosen_hold chosen params (c ∷ cs) env = (not (chosen c) || holds env params c.expr) && chosen_hold chosen params cs env
+chosen_hold chosen params (c ∷ cs) env =
+    (not (chosen c) || holds env params c.expr) && chosen_hold chosen params cs env
 
 -- the missing row where there is no row
 abbrev pub or_missing : List (Option Row) → List (Option Row)
@@ -79,36 +83,46 @@ table_of (Some item) = item.table
 abbrev pub item_rows : List (List Row) → Bound → ℕ → List Row
 item_rows database bound item = slice_index_or database (table_of (slice_get bound.items item)) []
 
--- D9 with R15: each row of the table; of a LEFT item each row on which all its own conjuncts hold, and the missing row where there is no such row
-abbrev pub choices : List (List Row) → Bound → List Value → ℕ → Rows → List (Option Row)
+-- D9 with R15: each row of the table; of a LEFT item each row on which all its own conjuncts hold,
+-- and the missing row where there is no such row
+abbrev pub choices : List (List Row) → Bound → List Value → ℕ → Assignment → List (Option Row)
 choices database bound params item env =
-    cond (is_left bound item) (or_missing (filter (λ x. chosen_hold (λ c. owned_by item c.owner) params bound.conjuncts (place env item x)) (map Some (item_rows database bound item)))) (map Some (item_rows database bound item))
+    cond (is_left bound item)
+    (or_missing
+    (filter
+    (λ x. chosen_hold (λ c. owned_by item c.owner) params bound.conjuncts (place env item x))
+    (map Some (item_rows database bound item)))) (map Some (item_rows database bound item))
 
 abbrev pub numbers_from : ℕ → ℕ → List ℕ
 numbers_from start zero = []
 numbers_from start (suc n) = start ∷ numbers_from (start + 1) n
 
-abbrev pub no_rows : Bound → Rows
+abbrev pub no_rows : Bound → Assignment
 no_rows bound = replicate (length bound.items) None
 
 -- D9: built from left to right, and kept where every common conjunct holds
-abbrev pub statement_rows : Bound → List (List Row) → List Value → List Rows
+abbrev pub statement_rows : Bound → List (List Row) → List Value → List Assignment
 statement_rows bound database params =
-    filter (chosen_hold is_common params bound.conjuncts) (product (choices database bound params) (numbers_from 0 (length bound.items)) (no_rows bound))
+    filter (chosen_hold is_common params bound.conjuncts)
+    (product (choices database bound params) (numbers_from 0 (length bound.items)) (no_rows bound))
 
 abbrev pub item_alias : Schema → Bound → ℕ → Option ℕ
-item_alias schema bound item = alias_of (slice_get schema.tables (table_of (slice_get bound.items item)))
+item_alias schema bound item =
+    alias_of (slice_get schema.tables (table_of (slice_get bound.items item)))
 
 abbrev pub exprs_of : List Conjunct → List BExpr
 exprs_of cs = map (λ c. c.expr) cs
 
 -- the conjuncts fit the schema
 abbrev pub FitsStatement : Schema → Bound → Type 0
-FitsStatement schema bound = AllByRecursion (λ c. FitsExpr schema bound.items c.expr) bound.conjuncts
+FitsStatement schema bound =
+    AllByRecursion (λ c. FitsExpr schema bound.items c.expr) bound.conjuncts
 
 -- R15: each owner is a LEFT item
 abbrev pub OwnersAreLeft : Bound → Type 0
-OwnersAreLeft bound = AllByRecursion (λ c. (owner : ℕ) → c.owner ≡ Some owner → is_left bound owner ≡ true) bound.conjuncts
+OwnersAreLeft bound =
+    AllByRecursion
+    (λ c. (owner : ℕ) → c.owner ≡ Some owner → is_left bound owner ≡ true) bound.conjuncts
 
 abbrev pub int_of : Value → Option ℤ
 int_of Null = None
@@ -135,8 +149,10 @@ drop_cut (Some (negsuc n)) xs = xs
 
 -- D10's Cut
 abbrev pub cut : {X : Type 0} → Bound → List Value → List X → List X
-cut bound params list = take_cut (cut_value params bound.limit) (drop_cut (cut_value params bound.offset) list)
+cut bound params list =
+    take_cut (cut_value params bound.limit) (drop_cut (cut_value params bound.offset) list)
 
 -- D9's Image
-abbrev pub image : Bound → List Value → Rows → List Value
-image bound params env = cond bound.rowids (cell env 0 AtRowid ∷ []) (map (ev env params) bound.results)
+abbrev pub image : Bound → List Value → Assignment → List Value
+image bound params env =
+    cond bound.rowids (cell env 0 AtRowid ∷ []) (map (ev env params) bound.results)

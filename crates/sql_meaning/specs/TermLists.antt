@@ -1,18 +1,23 @@
-use Rattle.std.specs.Prelude.{Bool, ◌&&◌, ◌==◌, ℕ, cond, not, List, [], ◌∷◌, Option, Some, None, false, ◌||◌, zero, suc, ◌+◌, length, ◌++◌, true, map, slice_get}
+use Rattle.std.specs.Prelude.{Bool, ◌&&◌, ◌==◌, ℕ, cond, not, List, [], ◌∷◌, Option, Some, None}
+use Rattle.std.specs.Prelude.{false, ◌||◌, zero, suc, ◌+◌, length, ◌++◌, true, map, slice_get}
 use Rattle.std.specs.List.{flat_map, filter}
 use Rattle.std.specs.declared.cmp.Ordering.{Ordering}
 use Rattle.std.specs.Ordering.{nat_cmp, on, then_cmp}
 use Rattle.list_laws.specs.Order.{sort_by}
-use Rattle.sql_meaning.specs.Expressions.{ColumnRef, IsEqual, BExpr, Cmp, bare_column, names, ref_expr, flat}
+use Rattle.sql_meaning.specs.Expressions.{ColumnRef, IsEqual, BExpr, Cmp, bare_column, names}
+use Rattle.sql_meaning.specs.Expressions.{ref_expr, flat}
 use Rattle.sql_meaning.specs.Orders.{same_site, same_collation}
-use Rattle.sql_meaning.specs.Values.{Affinity, Integer, Real, Numeric, TextAffinity, BlobAffinity, Collation}
+use Rattle.sql_meaning.specs.Values.{Affinity, Integer, Real, Numeric, TextAffinity, BlobAffinity}
+use Rattle.sql_meaning.specs.Values.{Collation}
 use Rattle.sql_meaning.specs.Schemas.{Schema, columns_of}
 use Rattle.sql_meaning.specs.Items.{Item, own_column}
 use Rattle.sql_meaning.specs.Rows.{Site, AtRowid, AtColumn}
 use Rattle.sql_meaning.specs.Paths.{KeyExpr}
 use Rattle.sql_meaning.specs.Terms.{Equals, Term, TermKind, Within, IsNothing, Low, High}
-use Rattle.sql_meaning.specs.Statements.{is_empty, Bound, exprs_of, numbers_from, table_of, Conjunct}
-use Rattle.sql_meaning.specs.Serving.{key_under, comparison_served, direct_terms, serving, numbered_term}
+use Rattle.sql_meaning.specs.Statements.{is_empty, Bound, exprs_of, numbers_from, table_of}
+use Rattle.sql_meaning.specs.Statements.{Conjunct}
+use Rattle.sql_meaning.specs.Serving.{key_under, comparison_served, direct_terms, serving}
+use Rattle.sql_meaning.specs.Serving.{numbered_term}
 use Rattle.sql_meaning.specs.Conjuncts.{may_derive}
 use Rattle.sql_meaning.specs.Choices.{ColumnTerms}
 
@@ -31,14 +36,21 @@ pub record Pair : Type 0 where
   pub second : ColumnRef
 
 -- the two columns that a conjunct links
-abbrev pub pair_of : Schema → List Item → Option ColumnRef → Option ColumnRef → Collation → List Pair
+abbrev pub pair_of : Schema → List Item → Option ColumnRef → Option ColumnRef → Collation
+    → List Pair
 pair_of schema items None d collation = []
 pair_of schema items (Some c) None collation = []
 pair_of schema items (Some c) (Some d) collation =
-    cond (not (c.item == d.item) && (same_collation (own_column schema items c).collation collation && (same_collation (own_column schema items d).collation collation && (class_number (own_column schema items c).affinity == class_number (own_column schema items d).affinity)))) (record { first = c; second = d } ∷ []) []
+    cond
+    (not (c.item == d.item)
+    && (same_collation (own_column schema items c).collation collation
+    && (same_collation (own_column schema items d).collation collation
+    && (class_number (own_column schema items c).affinity == class_number
+    (own_column schema items d).affinity)))) (record { first = c; second = d } ∷ []) []
 
 abbrev pub link_pair : Schema → List Item → BExpr → List Pair
-link_pair schema items (Cmp IsEqual left right left_conversion right_conversion collation) = pair_of schema items (bare_column left) (bare_column right) collation
+link_pair schema items (Cmp IsEqual left right left_conversion right_conversion collation) =
+    pair_of schema items (bare_column left) (bare_column right) collation
 link_pair schema items e = []
 
 abbrev pub has_ref : ColumnRef → List ColumnRef → Bool
@@ -50,7 +62,10 @@ add_if reached c seen = cond (reached && not (has_ref c seen)) (c ∷ seen) seen
 
 abbrev pub extend : List Pair → List ColumnRef → List ColumnRef
 extend [] seen = seen
-extend (p ∷ ps) seen = extend ps (add_if (has_ref p.second (add_if (has_ref p.first seen) p.second seen)) p.first (add_if (has_ref p.first seen) p.second seen))
+extend (p ∷ ps) seen =
+    extend ps
+    (add_if (has_ref p.second (add_if (has_ref p.first seen) p.second seen)) p.first
+    (add_if (has_ref p.first seen) p.second seen))
 
 abbrev pub reach : ℕ → List Pair → List ColumnRef → List ColumnRef
 reach zero ps seen = seen
@@ -70,22 +85,38 @@ ref_cmp = then_cmp (on (λ c. c.item) nat_cmp) (on (λ c. site_number c.site) na
 -- the columns that are linked with c, without c, by item and column
 abbrev pub linked_to : Schema → List Item → List BExpr → ColumnRef → List ColumnRef
 linked_to schema items es c =
-    sort_by ref_cmp (filter (λ d. not (same_ref d c)) (reach (length (link_pairs schema items es)) (link_pairs schema items es) (c ∷ [])))
+    sort_by ref_cmp
+    (filter (λ d. not (same_ref d c))
+    (reach (length (link_pairs schema items es)) (link_pairs schema items es) (c ∷ [])))
 
 abbrev pub derived_term : Schema → List Item → ColumnRef → KeyExpr → Term
-derived_term schema items c key = record { column = c.site; conjunct = None; collation = (own_column schema items c).collation; kind = Equals key }
+derived_term schema items c key =
+    record {
+      column = c.site;
+      conjunct = None;
+      collation =
+          (own_column schema items c).collation;
+      kind = Equals key;
+    }
 
 abbrev pub key_term : Schema → List Item → ColumnRef → Option KeyExpr → List Term
 key_term schema items c None = []
-key_term schema items c (Some key) = cond (is_empty (names key.expr)) (derived_term schema items c key ∷ []) []
+key_term schema items c (Some key) =
+    cond (is_empty (names key.expr)) (derived_term schema items c key ∷ []) []
 
 abbrev pub column_term : Schema → List Item → ℕ → ColumnRef → ColumnRef → List Term
-column_term schema items item c d = cond (d.item == item) [] (derived_term schema items c (record { expr = ref_expr d; conversion = None }) ∷ [])
+column_term schema items item c d =
+    cond (d.item == item) []
+    (derived_term schema items c (record { expr = ref_expr d; conversion = None }) ∷ [])
 
 -- 5.5's derived equalities of a column: `c = e` by conjunct number, then `c = d` by item and column
 abbrev pub derived_terms : Schema → List Item → List BExpr → ℕ → ColumnRef → List Term
 derived_terms schema items es item c =
-    flat_map (λ e. flat_map (λ d. key_term schema items c (key_under d.site (own_column schema items c).collation (comparison_served d.item e))) (linked_to schema items es c)) es
+    flat_map
+    (λ e. flat_map
+    (λ d. key_term schema items c
+    (key_under d.site (own_column schema items c).collation (comparison_served d.item e)))
+    (linked_to schema items es c)) es
     ++ flat_map (column_term schema items item c) (linked_to schema items es c)
 
 abbrev pub is_equal : TermKind → Bool
@@ -111,27 +142,45 @@ abbrev pub of_kind : (TermKind → Bool) → Site → List Term → List Term
 of_kind test site ts = filter (λ t. same_site t.column site && test t.kind) ts
 
 abbrev pub own_terms : Schema → Bound → ℕ → List Term
-own_terms schema bound item = direct_terms (λ site. (own_column schema bound.items (record { item = item; site = site })).collation) bound item 0 bound.conjuncts
+own_terms schema bound item =
+    direct_terms
+    (λ site. (own_column schema bound.items (record { item = item; site = site })).collation) bound
+    item 0 bound.conjuncts
 
 -- 5.5's order: direct = and IS NULL, derived ones, IN terms; lower and upper bounds
 abbrev pub column_terms : Schema → Bound → ℕ → Site → ColumnTerms
 column_terms schema bound item site = record {
   column = site;
-  equals = of_kind is_equal site (own_terms schema bound item) ++ (derived_terms schema bound.items (exprs_of (filter (may_derive bound item) bound.conjuncts)) item (record { item = item; site = site }) ++ of_kind is_within site (own_terms schema bound item));
+  equals =
+      of_kind is_equal site (own_terms schema bound item)
+      ++ (derived_terms schema bound.items
+      (exprs_of (filter (may_derive bound item) bound.conjuncts)) item
+      (record { item = item; site = site })
+      ++ of_kind is_within site (own_terms schema bound item));
   lows = of_kind is_low site (own_terms schema bound item);
   highs = of_kind is_high site (own_terms schema bound item);
 }
 
 abbrev pub all_sites : Schema → Bound → ℕ → List Site
-all_sites schema bound item = AtRowid ∷ map AtColumn (numbers_from 0 (length (columns_of (slice_get schema.tables (table_of (slice_get bound.items item))))))
+all_sites schema bound item =
+    AtRowid
+    ∷ map AtColumn
+    (numbers_from 0
+    (length (columns_of (slice_get schema.tables (table_of (slice_get bound.items item))))))
 
 -- D13's terms of an item; a column without a term does no harm
 abbrev pub item_terms : Schema → Bound → ℕ → List ColumnTerms
 item_terms schema bound item = map (column_terms schema bound item) (all_sites schema bound item)
 
--- the terms of an OR branch, from the branch's conjuncts alone; all have the number of the OR conjunct
+-- the terms of an OR branch, from the branch's conjuncts alone; all have the number of the OR
+-- conjunct
 abbrev pub branch_own : Schema → Bound → ℕ → ℕ → List BExpr → List Term
-branch_own schema bound item number es = flat_map (λ e. numbered_term number (serving (λ site. (own_column schema bound.items (record { item = item; site = site })).collation) item e)) es
+branch_own schema bound item number es =
+    flat_map
+    (λ e. numbered_term number
+    (serving
+    (λ site. (own_column schema bound.items (record { item = item; site = site })).collation) item
+    e)) es
 
 abbrev pub derived_if : Bool → List Term → List Term
 derived_if true ts = ts
@@ -140,10 +189,15 @@ derived_if false ts = []
 abbrev pub branch_column : Schema → Bound → Conjunct → ℕ → ℕ → List BExpr → Site → ColumnTerms
 branch_column schema bound c item number es site = record {
   column = site;
-  equals = of_kind is_equal site (branch_own schema bound item number es) ++ (derived_if (may_derive bound item c) (derived_terms schema bound.items es item (record { item = item; site = site })) ++ of_kind is_within site (branch_own schema bound item number es));
+  equals =
+      of_kind is_equal site (branch_own schema bound item number es)
+      ++ (derived_if (may_derive bound item c)
+      (derived_terms schema bound.items es item (record { item = item; site = site }))
+      ++ of_kind is_within site (branch_own schema bound item number es));
   lows = of_kind is_low site (branch_own schema bound item number es);
   highs = of_kind is_high site (branch_own schema bound item number es);
 }
 
 abbrev pub branch_terms : Schema → Bound → Conjunct → ℕ → ℕ → BExpr → List ColumnTerms
-branch_terms schema bound c item number e = map (branch_column schema bound c item number (flat e)) (all_sites schema bound item)
+branch_terms schema bound c item number e =
+    map (branch_column schema bound c item number (flat e)) (all_sites schema bound item)

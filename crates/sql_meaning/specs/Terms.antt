@@ -1,9 +1,13 @@
-use Rattle.std.specs.Prelude.{Bool, List, ℕ, Option, [], ◌∷◌, cond, map, true, ◌&&◌, false, Some, None, ◌≡◌, ◌≢◌, ◌⊎◌, ◌++◌}
+use Rattle.std.specs.Prelude.{Bool, List, ℕ, Option, [], ◌∷◌, cond, map, true, ◌&&◌, false, Some}
+use Rattle.std.specs.Prelude.{None, ◌≡◌, ◌≢◌, ◌⊎◌, ◌++◌}
 use Rattle.std.specs.List.{AllByRecursion}
-use Rattle.sql_meaning.specs.Paths.{KeyExpr, key_value, EqPart, OneKey, ManyKeys, NullKey, Edge, SeekForm}
+use Rattle.sql_meaning.specs.Paths.{KeyExpr, key_value, EqPart, OneKey, ManyKeys, NullKey, Edge}
+use Rattle.sql_meaning.specs.Paths.{SeekForm}
 use Rattle.sql_meaning.specs.Values.{Collation, Value, is_null, Affinity}
-use Rattle.sql_meaning.specs.Rows.{Site, Rows, cell, Row, site_value, AtRowid, AtColumn}
-use Rattle.sql_meaning.specs.Expressions.{IsEqual, IsBelow, IsAtMost, IsAbove, IsAtLeast, Op, IsUnequal, BExpr, names, bare_column, BExprs, Nil, More, Cmp, all_names, OneOf, IsNull, Any}
+use Rattle.sql_meaning.specs.Rows.{Site, Assignment, cell, Row, site_value, AtRowid, AtColumn}
+use Rattle.sql_meaning.specs.Expressions.{IsEqual, IsBelow, IsAtMost, IsAbove, IsAtLeast, Op}
+use Rattle.sql_meaning.specs.Expressions.{IsUnequal, BExpr, names, bare_column, BExprs, Nil, More}
+use Rattle.sql_meaning.specs.Expressions.{Cmp, all_names, OneOf, IsNull, Any}
 use Rattle.sql_meaning.specs.Evaluation.{compares, equals_any}
 use Rattle.sql_meaning.specs.IndexLists.{SortColumn}
 
@@ -30,21 +34,27 @@ keys_of (Low key inclusive) = key ∷ []
 keys_of (High key inclusive) = key ∷ []
 
 -- the term is true of a value of its column
-abbrev pub kind_holds : Rows → List Value → Collation → TermKind → Value → Bool
-kind_holds env params collation (Equals key) v = compares IsEqual collation v (key_value env params key)
-kind_holds env params collation (Within keys) v = equals_any collation (map (key_value env params) keys) v
+abbrev pub kind_holds : Assignment → List Value → Collation → TermKind → Value → Bool
+kind_holds env params collation (Equals key) v =
+    compares IsEqual collation v (key_value env params key)
+kind_holds env params collation (Within keys) v =
+    equals_any collation (map (key_value env params) keys) v
 kind_holds env params collation IsNothing v = is_null v
-kind_holds env params collation (Low key inclusive) v = compares (cond inclusive IsAtLeast IsAbove) collation v (key_value env params key)
-kind_holds env params collation (High key inclusive) v = compares (cond inclusive IsAtMost IsBelow) collation v (key_value env params key)
+kind_holds env params collation (Low key inclusive) v =
+    compares (cond inclusive IsAtLeast IsAbove) collation v (key_value env params key)
+kind_holds env params collation (High key inclusive) v =
+    compares (cond inclusive IsAtMost IsBelow) collation v (key_value env params key)
 
 -- the term of the item's column is true of an assignment
-abbrev pub term_holds : Rows → List Value → ℕ → Term → Bool
+abbrev pub term_holds : Assignment → List Value → ℕ → Term → Bool
 term_holds env params item t = kind_holds env params t.collation t.kind (cell env item t.column)
 
 -- all terms are true of a row of the item, for given rows of the placed items
-abbrev pub terms_true : Rows → List Value → List Term → Row → Bool
+abbrev pub terms_true : Assignment → List Value → List Term → Row → Bool
 terms_true env params [] row = true
-terms_true env params (t ∷ ts) row = kind_holds env params t.collation t.kind (site_value t.column row) && terms_true env params ts row
+terms_true env params (t ∷ ts) row =
+    kind_holds env params t.collation t.kind (site_value t.column row)
+    && terms_true env params ts row
 
 abbrev pub flipped : Op → Op
 flipped IsEqual = IsEqual
@@ -63,8 +73,10 @@ kind_of IsAtMost key = Some (High key true)
 kind_of IsAbove key = Some (Low key false)
 kind_of IsAtLeast key = Some (Low key true)
 
--- one side_conversion is the column and is converted by nothing, and the other names no column of the item
-pub record SideServes (item : ℕ) (site : Site) (kind : TermKind) (op : Op) (own other : BExpr) (own_conversion other_conversion : Option Affinity) : Type 0 where
+-- one side_conversion is the column and is converted by nothing, and the other names no column of
+-- the item
+pub record SideServes (item : ℕ) (site : Site) (kind : TermKind) (op : Op) (own other : BExpr) (own_conversion other_conversion : Option Affinity) :
+    Type 0 where
   pub is_column : bare_column own ≡ Some (record { item = item; site = site })
   pub unconverted : own_conversion ≡ None
   pub foreign : AllByRecursion (λ i. i ≢ item) (names other)
@@ -72,12 +84,15 @@ pub record SideServes (item : ℕ) (site : Site) (kind : TermKind) (op : Op) (ow
 
 abbrev pub entry_keys : Option Affinity → BExprs → List KeyExpr
 entry_keys converted Nil = []
-entry_keys converted (More e es) = record { expr = e; conversion = converted } ∷ entry_keys converted es
+entry_keys converted (More e es) =
+    record { expr = e; conversion = converted } ∷ entry_keys converted es
 
 -- 5.5's first case: a comparison
 abbrev pub ComparisonServes : ℕ → Site → Collation → TermKind → BExpr → Type 0
 ComparisonServes item site collation kind (Cmp op left right left_conversion right_conversion c) =
-    (c ≡ collation) × (SideServes item site kind op left right left_conversion right_conversion ⊎ SideServes item site kind (flipped op) right left right_conversion left_conversion)
+    (c ≡ collation)
+    × (SideServes item site kind op left right left_conversion right_conversion
+    ⊎ SideServes item site kind (flipped op) right left right_conversion left_conversion)
 ComparisonServes item site collation kind e = ⊥
 
 -- each branch is an `=` that serves this column under this collation
@@ -85,23 +100,30 @@ abbrev pub AreEqualities : ℕ → Site → Collation → BExprs → List KeyExp
 AreEqualities item site collation Nil [] = Unit {0}
 AreEqualities item site collation Nil (key ∷ keys) = ⊥
 AreEqualities item site collation (More e es) [] = ⊥
-AreEqualities item site collation (More e es) (key ∷ keys) = ComparisonServes item site collation (Equals key) e × AreEqualities item site collation es keys
+AreEqualities item site collation (More e es) (key ∷ keys) =
+    ComparisonServes item site collation (Equals key) e × AreEqualities item site collation es keys
 
-pub record ListServes (item : ℕ) (site : Site) (kind : TermKind) (own : BExpr) (entries : BExprs) (entry_conversion : Option Affinity) : Type 0 where
+pub record ListServes (item : ℕ) (site : Site) (kind : TermKind) (own : BExpr) (entries : BExprs) (entry_conversion : Option Affinity) :
+    Type 0 where
   pub is_column : bare_column own ≡ Some (record { item = item; site = site })
   pub foreign : AllByRecursion (λ i. i ≢ item) (all_names entries)
   pub says : kind ≡ Within (entry_keys entry_conversion entries)
 
-pub record OrServes (item : ℕ) (site : Site) (collation : Collation) (kind : TermKind) (es : BExprs) : Type 0 where
+pub record OrServes (item : ℕ) (site : Site) (collation : Collation) (kind : TermKind) (es : BExprs) :
+    Type 0 where
   pub keys : List KeyExpr
   pub equalities : AreEqualities item site collation es keys
   pub says : kind ≡ Within keys
 
 -- D12 without MayServe: a comparison, an IN list, IS NULL, or an OR list of equalities
 abbrev pub Serves : ℕ → Site → Collation → TermKind → BExpr → Type 0
-Serves item site collation kind (Cmp op left right left_conversion right_conversion c) = ComparisonServes item site collation kind (Cmp op left right left_conversion right_conversion c)
-Serves item site collation kind (OneOf negated own entries entry_conversion c) = (negated ≡ false) × (c ≡ collation) × ListServes item site kind own entries entry_conversion
-Serves item site collation kind (IsNull negated own) = (negated ≡ false) × (bare_column own ≡ Some (record { item = item; site = site })) × (kind ≡ IsNothing)
+Serves item site collation kind (Cmp op left right left_conversion right_conversion c) =
+    ComparisonServes item site collation kind (Cmp op left right left_conversion right_conversion c)
+Serves item site collation kind (OneOf negated own entries entry_conversion c) =
+    (negated ≡ false) × (c ≡ collation) × ListServes item site kind own entries entry_conversion
+Serves item site collation kind (IsNull negated own) =
+    (negated ≡ false) × (bare_column own ≡ Some (record { item = item; site = site }))
+    × (kind ≡ IsNothing)
 Serves item site collation kind (Any es) = OrServes item site collation kind es
 Serves item site collation kind e = ⊥
 
@@ -110,9 +132,12 @@ abbrev pub IsRowid : Option ℕ → Site → Type 0
 IsRowid alias AtRowid = Unit {0}
 IsRowid alias (AtColumn column) = alias ≡ Some column
 
--- a term may be used for a column whose collation is equal; IS NULL, and every term on the rowid, need no equal collation
+-- a term may be used for a column whose collation is equal; IS NULL, and every term on the rowid,
+-- need no equal collation
 abbrev pub MayUse : Option ℕ → SortColumn → Term → Type 0
-MayUse alias s t = ((t.column ≡ s.site) × ((t.collation ≡ s.collation) ⊎ (t.kind ≡ IsNothing))) ⊎ ((t.column ≡ AtRowid) × IsRowid alias s.site)
+MayUse alias s t =
+    ((t.column ≡ s.site) × ((t.collation ≡ s.collation) ⊎ (t.kind ≡ IsNothing)))
+    ⊎ ((t.column ≡ AtRowid) × IsRowid alias s.site)
 
 abbrev pub part_of : TermKind → Option EqPart
 part_of (Equals key) = Some (OneKey key)
@@ -123,18 +148,25 @@ part_of (High key inclusive) = None
 
 abbrev pub LowFrom : Option ℕ → SortColumn → Option Edge → List Term → Type 0
 LowFrom alias s None ts = ts ≡ []
-LowFrom alias s (Some e) ts = (t : Term) × (ts ≡ t ∷ []) × MayUse alias s t × (t.kind ≡ Low e.key e.inclusive)
+LowFrom alias s (Some e) ts =
+    (t : Term) × (ts ≡ t ∷ []) × MayUse alias s t × (t.kind ≡ Low e.key e.inclusive)
 
 abbrev pub HighFrom : Option ℕ → SortColumn → Option Edge → List Term → Type 0
 HighFrom alias s None ts = ts ≡ []
-HighFrom alias s (Some e) ts = (t : Term) × (ts ≡ t ∷ []) × MayUse alias s t × (t.kind ≡ High e.key e.inclusive)
+HighFrom alias s (Some e) ts =
+    (t : Term) × (ts ≡ t ∷ []) × MayUse alias s t × (t.kind ≡ High e.key e.inclusive)
 
--- the used terms are those whose keys the path carries: a part for each of the first columns, then the bounds on the next
-abbrev pub Carries : Option ℕ → List SortColumn → List EqPart → Option Edge → Option Edge → List Term → Type 0
+-- the used terms are those whose keys the path carries: a part for each of the first columns, then
+-- the bounds on the next
+abbrev pub Carries : Option ℕ → List SortColumn → List EqPart → Option Edge → Option Edge
+    → List Term → Type 0
 Carries alias [] eqs low high ts = ts ≡ []
-Carries alias (s ∷ ss) [] low high ts = (lows highs : List Term) × (ts ≡ lows ++ highs) × LowFrom alias s low lows × HighFrom alias s high highs
+Carries alias (s ∷ ss) [] low high ts =
+    (lows highs : List Term) × (ts ≡ lows ++ highs) × LowFrom alias s low lows
+    × HighFrom alias s high highs
 Carries alias (s ∷ ss) (p ∷ ps) low high [] = ⊥
-Carries alias (s ∷ ss) (p ∷ ps) low high (t ∷ ts) = MayUse alias s t × (part_of t.kind ≡ Some p) × Carries alias ss ps low high ts
+Carries alias (s ∷ ss) (p ∷ ps) low high (t ∷ ts) =
+    MayUse alias s t × (part_of t.kind ≡ Some p) × Carries alias ss ps low high ts
 
 abbrev pub FormCarries : Option ℕ → SeekForm → List Term → Type 0
 FormCarries alias f ts = Carries alias f.columns f.eqs f.low f.high ts

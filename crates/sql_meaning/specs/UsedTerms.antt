@@ -1,8 +1,9 @@
-use Rattle.std.specs.Prelude.{List, ℕ, Bool, true, ◌&&◌, [], ◌∷◌, false, ◌||◌, ◌≡◌, Option, Some, slice_get, ◌⊎◌, None}
+use Rattle.std.specs.Prelude.{List, ℕ, Bool, true, ◌&&◌, [], ◌∷◌, false, ◌||◌, ◌≡◌, Option, Some}
+use Rattle.std.specs.Prelude.{slice_get, ◌⊎◌, None}
 use Rattle.std.specs.List.{AllByRecursion, filter}
 use Rattle.sql_meaning.specs.Terms.{Term, term_holds, FormCarries, keys_of, Serves}
 use Rattle.sql_meaning.specs.Values.{Value}
-use Rattle.sql_meaning.specs.Rows.{Rows}
+use Rattle.sql_meaning.specs.Rows.{Assignment}
 use Rattle.sql_meaning.specs.Schemas.{Schema}
 use Rattle.sql_meaning.specs.Paths.{Paths, Nowhere, Then, form_of, is_union, Path, Union}
 use Rattle.sql_meaning.specs.Expressions.{names, BExpr, BExprs, Nil, More, flat, Any}
@@ -15,16 +16,16 @@ pub data Used : Type 0 where
   AllOf : (ts : List Term) → Used
   AnyOf : (tss : List (List Term)) → Used
 
-abbrev pub all_terms : Rows → List Value → ℕ → List Term → Bool
+abbrev pub all_terms : Assignment → List Value → ℕ → List Term → Bool
 all_terms env params item [] = true
 all_terms env params item (t ∷ ts) = term_holds env params item t && all_terms env params item ts
 
-abbrev pub any_terms : Rows → List Value → ℕ → List (List Term) → Bool
+abbrev pub any_terms : Assignment → List Value → ℕ → List (List Term) → Bool
 any_terms env params item [] = false
 any_terms env params item (ts ∷ tss) = all_terms env params item ts || any_terms env params item tss
 
 -- each used term holds; of a union, those of some branch
-abbrev pub used_holds : Rows → List Value → ℕ → Used → Bool
+abbrev pub used_holds : Assignment → List Value → ℕ → Used → Bool
 used_holds env params item (AllOf ts) = all_terms env params item ts
 used_holds env params item (AnyOf tss) = any_terms env params item tss
 
@@ -32,7 +33,9 @@ abbrev pub BranchesCarry : Schema → Option ℕ → Paths → List (List Term) 
 BranchesCarry schema alias Nowhere [] = Unit {0}
 BranchesCarry schema alias Nowhere (ts ∷ tss) = ⊥
 BranchesCarry schema alias (Then p ps) [] = ⊥
-BranchesCarry schema alias (Then p ps) (ts ∷ tss) = (is_union p ≡ false) × FormCarries alias (form_of schema p) ts × BranchesCarry schema alias ps tss
+BranchesCarry schema alias (Then p ps) (ts ∷ tss) =
+    (is_union p ≡ false) × FormCarries alias (form_of schema p) ts
+    × BranchesCarry schema alias ps tss
 
 -- these are the terms whose keys the path carries
 abbrev pub PathCarries : Schema → Option ℕ → Path → Used → Type 0
@@ -43,7 +46,9 @@ PathCarries schema alias path (AnyOf tss) = ⊥
 
 -- a term may be used where the items that its other side_conversion names are placed
 abbrev pub KeysPlaced : List ℕ → Term → Type 0
-KeysPlaced placed t = AllByRecursion (λ k. AllByRecursion (λ i. has_number i placed ≡ true) (names k.expr)) (keys_of t.kind)
+KeysPlaced placed t =
+    AllByRecursion (λ k. AllByRecursion (λ i. has_number i placed ≡ true) (names k.expr))
+    (keys_of t.kind)
 
 abbrev pub UsedPlaced : List ℕ → Used → Type 0
 UsedPlaced placed (AllOf ts) = AllByRecursion (KeysPlaced placed) ts
@@ -58,30 +63,40 @@ pub record IsDirect (bound : Bound) (item : ℕ) (t : Term) : Type 0 where
   pub serves : Serves item t.column t.collation t.kind conjunct.expr
   pub numbered : t.conjunct ≡ Some number
 
--- D13: the terms of an item come from conjuncts that MayServe allows it, or are derived from those that MayDerive allows it
+-- D13: the terms of an item come from conjuncts that MayServe allows it, or are derived from those
+-- that MayDerive allows it
 abbrev pub IsTerm : Schema → Bound → ℕ → Term → Type 0
-IsTerm schema bound item t = IsDirect bound item t ⊎ ((t.conjunct ≡ None) × Derives schema bound.items (exprs_of (filter (may_derive bound item) bound.conjuncts)) item t)
+IsTerm schema bound item t =
+    IsDirect bound item t
+    ⊎ ((t.conjunct ≡ None)
+    × Derives schema bound.items (exprs_of (filter (may_derive bound item) bound.conjuncts)) item t)
 
 -- a term of an OR branch, as a conjunct list of its own
 abbrev pub IsBranchTerm : Schema → Bound → Conjunct → ℕ → List BExpr → Term → Type 0
-IsBranchTerm schema bound c item es t = ((number : ℕ) × (e : BExpr) × (slice_get es number ≡ Some e) × Serves item t.column t.collation t.kind e) ⊎ ((may_derive bound item c ≡ true) × Derives schema bound.items es item t)
+IsBranchTerm schema bound c item es t =
+    ((number : ℕ) × (e : BExpr) × (slice_get es number ≡ Some e)
+    × Serves item t.column t.collation t.kind e)
+    ⊎ ((may_derive bound item c ≡ true) × Derives schema bound.items es item t)
 
 -- each branch has terms, from the conjuncts of that branch alone
 abbrev pub AreBranchTerms : Schema → Bound → Conjunct → ℕ → BExprs → List (List Term) → Type 0
 AreBranchTerms schema bound c item Nil [] = Unit {0}
 AreBranchTerms schema bound c item Nil (ts ∷ tss) = ⊥
 AreBranchTerms schema bound c item (More e es) [] = ⊥
-AreBranchTerms schema bound c item (More e es) (ts ∷ tss) = AllByRecursion (IsBranchTerm schema bound c item (flat e)) ts × AreBranchTerms schema bound c item es tss
+AreBranchTerms schema bound c item (More e es) (ts ∷ tss) =
+    AllByRecursion (IsBranchTerm schema bound c item (flat e)) ts
+    × AreBranchTerms schema bound c item es tss
 
 -- an OR conjunct that MayServe allows the item, with the terms of its branches
-pub record IsOrTerm (schema : Schema) (bound : Bound) (item : ℕ) (tss : List (List Term)) : Type 0 where
-  pub number : ℕ
-  pub conjunct : Conjunct
-  pub branches : BExprs
-  pub is : slice_get bound.conjuncts number ≡ Some conjunct
-  pub allowed : may_serve bound item conjunct ≡ true
-  pub any : conjunct.expr ≡ Any branches
-  pub terms : AreBranchTerms schema bound conjunct item branches tss
+pub record IsOrTerm (schema : Schema) (bound : Bound) (item : ℕ) (tss : List (List Term)) : Type 0
+  where
+    pub number : ℕ
+    pub conjunct : Conjunct
+    pub branches : BExprs
+    pub is : slice_get bound.conjuncts number ≡ Some conjunct
+    pub allowed : may_serve bound item conjunct ≡ true
+    pub any : conjunct.expr ≡ Any branches
+    pub terms : AreBranchTerms schema bound conjunct item branches tss
 
 abbrev pub UsedComes : Schema → Bound → ℕ → Used → Type 0
 UsedComes schema bound item (AllOf ts) = AllByRecursion (IsTerm schema bound item) ts
@@ -89,5 +104,6 @@ UsedComes schema bound item (AnyOf tss) = IsOrTerm schema bound item tss
 
 -- a path consumes the direct conjuncts whose terms it uses; a union consumes nothing
 abbrev pub Consumes : Used → ℕ → Type 0
-Consumes (AllOf ts) number = (k : ℕ) × (t : Term) × (slice_get ts k ≡ Some t) × (t.conjunct ≡ Some number)
+Consumes (AllOf ts) number =
+    (k : ℕ) × (t : Term) × (slice_get ts k ≡ Some t) × (t.conjunct ≡ Some number)
 Consumes (AnyOf tss) number = ⊥
