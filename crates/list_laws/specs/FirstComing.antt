@@ -1,14 +1,15 @@
+-- Of members that are the same, the first that comes.
 use Rattle.std.specs.Prelude.{Bool, false, List, [], ◌∷◌, ◌||◌, cond, ◌≡◌, ℕ}
 use Rattle.std.specs.Ordering.{is_eq}
 use Rattle.std.specs.declared.cmp.Ordering.{Ordering}
 use Rattle.list_laws.specs.Tally.{tally}
 
--- some element is the same as x
+-- some member is the same as x
 abbrev pub has : {X : Type 0} → (X → X → Bool) → List X → X → Bool
 has E [] x = false
 has E (y ∷ ys) x = E y x || has E ys x
 
--- each element at its first coming, and none that is the same as one of `seen`
+-- each member at its first coming, and none that is the same as one of `seen`
 abbrev pub keep_first : {X : Type 0} → (X → X → Bool) → List X → List X → List X
 keep_first E seen [] = []
 keep_first E seen (x ∷ xs) =

@@ -1,3 +1,4 @@
+-- Which terms a seek takes for an item, after the items that are placed.
 use Rattle.std.specs.Prelude.{List, ℕ, Bool, true, ◌&&◌, [], ◌∷◌, cond, Option, Some, None, ◌++◌}
 use Rattle.std.specs.Prelude.{map}
 use Rattle.std.specs.List.{flat_map}
@@ -14,14 +15,14 @@ use Rattle.sql_meaning.specs.Orders.{same_site, same_collation}
 use Rattle.sql_meaning.specs.Schemas.{IndexColumn}
 use Rattle.sql_meaning.specs.OrderState.{column_site}
 
--- 4.9: the terms of a column, in 5.5's order
+-- the terms of a column, each kind in the order in which they are tried
 pub record ColumnTerms : Type 0 where
   pub column : Site
   pub equals : List Term
   pub lows : List Term
   pub highs : List Term
 
--- a term may be used where the items that its other side_conversion names are placed
+-- a term may be used where the items that its key names are placed
 abbrev pub keys_in : List ℕ → List KeyExpr → Bool
 keys_in placed [] = true
 keys_in placed (k ∷ ks) = all_in (names k.expr) placed && keys_in placed ks
@@ -29,7 +30,7 @@ keys_in placed (k ∷ ks) = all_in (names k.expr) placed && keys_in placed ks
 abbrev pub is_usable : List ℕ → Term → Bool
 is_usable placed t = keys_in placed (keys_of t.kind)
 
--- IS NULL, and every term on the rowid, need no equal collation
+-- IS NULL, and a term on the rowid, may be used whatever the collation is
 abbrev pub suits : Site → TermKind → Bool → Bool
 suits AtRowid kind same = true
 suits (AtColumn column) IsNothing same = true
@@ -68,7 +69,7 @@ abbrev pub one_or_none : Option Term → List Term
 one_or_none None = []
 one_or_none (Some t) = t ∷ []
 
--- what a seek takes
+-- what a seek takes of the terms
 pub record Taken : Type 0 where
   pub eqs : List EqPart
   pub low : Option Edge
@@ -104,8 +105,8 @@ fits_column placed alias c t =
     is_usable placed t
     && suits (column_site alias c.column) t.kind (same_collation t.collation c.collation)
 
--- 5.7: for each column from the first on the first usable equality term until a column has none,
--- then that column's first usable bounds
+-- for each column, from the first on, its first equality term that may be used, until a column has
+-- none; then that column's first bounds that may be used
 abbrev pub seek_terms : List ℕ → Option ℕ → List ColumnTerms → List IndexColumn → Taken
 seek_terms placed alias columns [] = nothing_taken
 seek_terms placed alias columns (c ∷ cs) =
@@ -116,7 +117,7 @@ seek_terms placed alias columns (c ∷ cs) =
     (first_that (fits_column placed alias c) (terms_at (column_site alias c.column) columns).lows)
     (first_that (fits_column placed alias c) (terms_at (column_site alias c.column) columns).highs))
 
--- an offer's path with its used terms
+-- a path with the terms that it uses
 pub record Offer : Type 0 where
   pub path : Path
   pub used : List Term
@@ -139,14 +140,15 @@ abbrev pub rowid_equal : Option Term → Option Offer → Option Offer
 rowid_equal (Some t) range = Some (record { path = RowidEq (part_or t.kind); used = t ∷ [] })
 rowid_equal None range = range
 
--- 5.7, kind 2: by the first usable equality term of the rowid, else by its first usable bounds
+-- a seek by rowid: by the first equality term of the rowid that may be used, else by its first
+-- bounds
 abbrev pub rowid_offer : List ℕ → List ColumnTerms → Option Offer
 rowid_offer placed columns =
     rowid_equal (first_that (is_usable placed) (terms_at AtRowid columns).equals)
     (rowid_range (first_that (is_usable placed) (terms_at AtRowid columns).lows)
     (first_that (is_usable placed) (terms_at AtRowid columns).highs))
 
--- 5.7, kind 3: a seek, which needs at least one part
+-- a seek by index, which needs a term at least
 abbrev pub seek_of : ℕ → Taken → List Term → Option Offer
 seek_of index taken [] = None
 seek_of index taken (t ∷ ts) =
@@ -160,12 +162,12 @@ abbrev pub number_list : Option ℕ → List ℕ
 number_list None = []
 number_list (Some n) = n ∷ []
 
--- the conjuncts whose direct terms it uses, rising and each once
+-- the conjuncts whose direct terms are used, rising and each once
 abbrev pub consumed_of : List Term → List ℕ
 consumed_of ts =
     keep_first (eq_by_cmp nat_cmp) [] (sort_by nat_cmp (flat_map (λ t. number_list t.conjunct) ts))
 
--- 5.7, kind 4: a union of one offer for each branch
+-- a union of one offer for each branch
 abbrev pub paths_of : List Offer → Paths
 paths_of [] = Nowhere
 paths_of (o ∷ os) = Then o.path (paths_of os)

@@ -1,3 +1,4 @@
+-- Which conjuncts may serve an item, and at which loop a conjunct is tested.
 use Rattle.std.specs.Prelude.{ℕ, Bool, cond, not, ◌&&◌, ◌||◌, List, ◌∷◌, ◌==◌, Option, Some, None}
 use Rattle.std.specs.Prelude.{◌+◌, true, []}
 use Rattle.sql_meaning.specs.Statements.{Conjunct, Bound, is_left, owned_by, is_common, has_number}
@@ -7,21 +8,22 @@ use Rattle.sql_meaning.specs.Values.{Value}
 use Rattle.sql_meaning.specs.Rows.{Assignment}
 use Rattle.sql_meaning.specs.Evaluation.{holds}
 
--- R15: a LEFT item is served by its own conjuncts alone, every other item by common conjuncts alone
+-- a LEFT item is served by its own conjuncts alone, since a common one must not turn its rows into
+-- the missing row; every other item by common conjuncts alone
 abbrev pub may_serve : Bound → ℕ → Conjunct → Bool
 may_serve bound item c = cond (is_left bound item) (owned_by item c.owner) (is_common c)
 
--- R15: holds where the conjunct is common and the item isn't LEFT
+-- a derived equality comes from common conjuncts, and for an item that isn't LEFT
 abbrev pub may_derive : Bound → ℕ → Conjunct → Bool
 may_derive bound item c = is_common c && not (is_left bound item)
 
--- the conjunct names the item, and every other item that it names is placed; or it names no item
--- and nothing is placed
+-- a common conjunct is first known at the loop of the last item that it names, or at the first loop
+-- where it names none
 abbrev pub common_first : List ℕ → ℕ → List ℕ → Bool
 common_first placed item named =
     (has_number item named && all_in named (item ∷ placed)) || (is_empty named && is_empty placed)
 
--- R15's FirstAt: an owned conjunct is first evaluated at the level of its owner
+-- an owned conjunct is first known at the loop of its owner
 abbrev pub first_by : List ℕ → ℕ → List ℕ → Option ℕ → Bool
 first_by placed item named None = common_first placed item named
 first_by placed item named (Some owner) = owner == item
@@ -29,8 +31,8 @@ first_by placed item named (Some owner) = owner == item
 abbrev pub first_at : List ℕ → ℕ → Conjunct → Bool
 first_at placed item c = first_by placed item (names c.expr) c.owner
 
--- the chosen conjuncts, numbered from j, that can first be evaluated at this level and that no path
--- consumed hold
+-- each chosen conjunct, numbered from j, holds that is first known at this loop and that no path
+-- consumed
 abbrev pub level_test : (Conjunct → Bool) → List Value → List ℕ → List ℕ → ℕ → ℕ → List Conjunct
     → Assignment → Bool
 level_test chosen params consumed placed item j [] env = true

@@ -1,3 +1,4 @@
+-- The value of an expression: three-valued, as in lang_expr of SQLite.
 use Rattle.std.specs.Prelude.{Bool, cond, ◌||◌, Option, Some, None, true, false, not, pos, ℕ, zero}
 use Rattle.std.specs.Prelude.{suc, List, slice_index_or, [], ◌∷◌, map}
 use Rattle.std.specs.declared.cmp.Ordering.{Ordering}
@@ -11,6 +12,7 @@ use Rattle.sql_meaning.specs.Truth.{truth3}
 use Rattle.sql_meaning.specs.Conversions.{converted_by}
 use Rattle.sql_meaning.specs.Rows.{AtRowid, AtColumn, Assignment, cell}
 
+-- what an outcome of an order says of a comparison
 abbrev pub op_holds : Op → Ordering → Bool
 op_holds IsEqual o = is_eq o
 op_holds IsUnequal o = is_ne o
@@ -19,7 +21,7 @@ op_holds IsAtMost o = is_le o
 op_holds IsAbove o = is_gt o
 op_holds IsAtLeast o = is_ge o
 
--- D3: unknown where a side_conversion is NULL
+-- unknown where a side is NULL
 abbrev pub compare3 : Op → Collation → Value → Value → Option Bool
 compare3 op collation left right =
     cond (is_null left || is_null right) None (Some (op_holds op (value_cmp collation left right)))
@@ -41,6 +43,7 @@ or3 None None = None
 abbrev pub not3 : Option Bool → Option Bool
 not3 t = option_map not t
 
+-- NOT IN and IS NOT NULL
 abbrev pub negated_if : Bool → Option Bool → Option Bool
 negated_if true t = not3 t
 negated_if false t = t
@@ -61,15 +64,17 @@ abbrev pub one_of3 : Collation → Value → List Value → Option Bool
 one_of3 collation v [] = Some false
 one_of3 collation v (w ∷ ws) = or3 (compare3 IsEqual collation v w) (one_of3 collation v ws)
 
+-- the AND of some values
 abbrev pub all3 : List Value → Option Bool
 all3 [] = Some true
 all3 (v ∷ vs) = and3 (truth3 v) (all3 vs)
 
+-- the OR of some values
 abbrev pub any3 : List Value → Option Bool
 any3 [] = Some false
 any3 (v ∷ vs) = or3 (truth3 v) (any3 vs)
 
--- D4
+-- a condition's value is Int 1, Int 0 or NULL; all else is the value itself
 abbrev mutual
   pub ev : Assignment → List Value → BExpr → Value
   ev env params (Lit v) = v
@@ -101,11 +106,11 @@ abbrev pub is_true : Option Bool → Bool
 is_true None = false
 is_true (Some b) = b
 
--- D4's Holds
+-- the condition is true; where it is false or unknown, a row is not kept
 abbrev pub holds : Assignment → List Value → BExpr → Bool
 holds env params e = is_true (truth3 (ev env params e))
 
--- the comparison is true
+-- the comparison is true, not unknown
 abbrev pub compares : Op → Collation → Value → Value → Bool
 compares op collation left right = is_true (compare3 op collation left right)
 

@@ -1,7 +1,9 @@
+-- Expressions whose names are bound to items and columns.
 use Rattle.std.specs.Prelude.{ℕ, Bool, Option, List, [], ◌∷◌, ◌++◌, Some, None}
 use Rattle.sql_meaning.specs.Values.{Value, Collation, Affinity}
 use Rattle.sql_meaning.specs.Rows.{Site, AtRowid, AtColumn}
 
+-- the six comparisons
 pub data Op : Type 0 where
   IsEqual : Op
   IsUnequal : Op
@@ -10,7 +12,8 @@ pub data Op : Type 0 where
   IsAbove : Op
   IsAtLeast : Op
 
--- 4.8's bound expressions; a list of them is a type of its own
+-- a bound expression: a conversion stands where a comparison applies one, and each comparison has
+-- its collation; a list of expressions is a type of its own, because the two depend on each other
 mutual
   pub data BExpr : Type 0 where
     Lit : (v : Value) → BExpr
@@ -54,7 +57,7 @@ abbrev mutual
   all_names Nil = []
   all_names (More e es) = names e ++ all_names es
 
--- AND lists flattened
+-- the members of an AND, and of each AND among them
 abbrev mutual
   pub flat : BExpr → List BExpr
   flat (All es) = flat_all es
@@ -79,12 +82,13 @@ pub record ColumnRef : Type 0 where
   pub item : ℕ
   pub site : Site
 
+-- the column of an expression that is one
 abbrev pub plain_column : BExpr → Option ColumnRef
 plain_column (Column item column) = Some (record { item = item; site = AtColumn column })
 plain_column (Rowid item) = Some (record { item = item; site = AtRowid })
 plain_column e = None
 
--- the column that stands alone or directly under COLLATE
+-- the column of an expression that is one, or is one directly under COLLATE
 abbrev pub bare_column : BExpr → Option ColumnRef
 bare_column (Collate e collation) = plain_column e
 bare_column e = plain_column e

@@ -1,3 +1,4 @@
+-- The list that an index keeps (fileformat2, "Index B-Trees").
 use Rattle.std.specs.Prelude.{Bool, false, true, List, [], ◌∷◌, map, Option, Some, None, ℕ}
 use Rattle.std.specs.Prelude.{slice_get}
 use Rattle.std.specs.declared.cmp.Ordering.{Ordering}
@@ -7,12 +8,13 @@ use Rattle.sql_meaning.specs.Values.{Collation, Binary, Value, value_cmp}
 use Rattle.sql_meaning.specs.Rows.{Site, AtRowid, Row, site_value, AtColumn}
 use Rattle.sql_meaning.specs.Schemas.{Index, Schema}
 
--- a column that a list is sorted by, with collation and direction
+-- a column that a list is sorted by, with its collation and direction
 pub record SortColumn : Type 0 where
   pub site : Site
   pub collation : Collation
   pub falling : Bool
 
+-- a table is kept by its rowid
 abbrev pub by_rowid : SortColumn
 by_rowid = record { site = AtRowid; collation = Binary; falling = false }
 
@@ -29,7 +31,7 @@ abbrev pub entry_cmp : List SortColumn → Row → Row → Ordering
 entry_cmp [] = on (λ row. row.rowid) int_cmp
 entry_cmp (s ∷ ss) = then_cmp (on (site_value s.site) (column_cmp s)) (entry_cmp ss)
 
--- D8
+-- an index kept true: the rows of its table, by its columns and then by rowid
 abbrev pub entries : List SortColumn → List Row → List Row
 entries columns rows = sort_by (entry_cmp columns) rows
 
@@ -40,5 +42,6 @@ index_sort_columns (Some index) =
     (λ c. record { site = AtColumn c.column; collation = c.collation; falling = c.falling })
     index.columns
 
+-- the columns that an index of the schema is sorted by
 abbrev pub sort_columns : Schema → ℕ → List SortColumn
 sort_columns schema index = index_sort_columns (slice_get schema.indexes index)

@@ -1,3 +1,4 @@
+-- Items of a FROM clause, and what a column is in them.
 use Rattle.std.specs.Prelude.{ℕ, Bool, Option, Some, None, slice_get, List, ◌≡◌}
 use Rattle.sql_meaning.specs.Schemas.{Schema, TableColumn, column_or, column_of_table}
 use Rattle.sql_meaning.specs.Values.{Binary, Integer, Affinity}
@@ -7,6 +8,7 @@ use Rattle.sql_meaning.specs.Expressions.{ColumnRef, BExpr, Column, Rowid, Colla
 use Rattle.sql_meaning.specs.Expressions.{Plus, Cmp, OneOf, IsNull, Not, All, Any, BExprs, Nil}
 use Rattle.sql_meaning.specs.Expressions.{More}
 
+-- a table in a FROM clause; `cross` where it comes after CROSS JOIN, `left` after LEFT JOIN
 pub record Item : Type 0 where
   pub table : ℕ
   pub cross : Bool
@@ -24,7 +26,7 @@ own_at schema item (AtColumn column) = table_column schema item column
 abbrev pub own_column : Schema → List Item → ColumnRef → TableColumn
 own_column schema items c = own_at schema (slice_get items c.item) c.site
 
--- 5.2's affinity of an expression
+-- the affinity of a column, also under COLLATE; any other expression has none
 abbrev pub expr_affinity : Schema → List Item → BExpr → Option Affinity
 expr_affinity schema items (Column item column) =
     Some (own_column schema items (record { item = item; site = AtColumn column })).affinity
@@ -32,7 +34,7 @@ expr_affinity schema items (Rowid item) = Some Integer
 expr_affinity schema items (Collate e collation) = expr_affinity schema items e
 expr_affinity schema items e = None
 
--- 4.8: each conversion kept in a comparison or an IN is the one that 5.2 gives for its operands
+-- each conversion that an expression keeps is the one that its operands' affinities ask for
 abbrev mutual
   pub FitsExpr : Schema → List Item → BExpr → Type 0
   FitsExpr schema items (Lit v) = Unit {0}

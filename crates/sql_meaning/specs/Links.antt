@@ -1,3 +1,5 @@
+-- Columns linked by equality, and the equalities that follow (optoverview, "transitive
+-- constraints").
 use Rattle.std.specs.Prelude.{◌≡◌, ◌≢◌, List, Some, ℕ, slice_get, [], None}
 use Rattle.sql_meaning.specs.Values.{Affinity, Integer, Real, Numeric, TextAffinity, BlobAffinity}
 use Rattle.sql_meaning.specs.Values.{Collation}
@@ -8,7 +10,8 @@ use Rattle.sql_meaning.specs.Items.{Item, own_column}
 use Rattle.sql_meaning.specs.Paths.{KeyExpr}
 use Rattle.sql_meaning.specs.Terms.{Equals, Term, Serves}
 
--- numeric, TEXT or BLOB
+-- under numeric affinities equal values are the same number, and so on: no side of a comparison
+-- within a class is converted
 abbrev pub affinity_class : Affinity → Affinity
 affinity_class Integer = Numeric
 affinity_class Real = Numeric
@@ -16,8 +19,8 @@ affinity_class Numeric = Numeric
 affinity_class TextAffinity = TextAffinity
 affinity_class BlobAffinity = BlobAffinity
 
--- 5.5: `c = d` links two columns of different items where its collation is the own one of both and
--- their affinities are of one class
+-- `c = d` links two columns of different items where it compares them as each compares itself: by
+-- the own collation of both, and with affinities of one class
 pub record LinkOf (schema : Schema) (items : List Item) (c d : ColumnRef) (left right : BExpr) (collation : Collation) :
     Type 0 where
   pub is_c : bare_column left ≡ Some c
@@ -33,7 +36,7 @@ Links schema items c d (Cmp IsEqual left right left_conversion right_conversion 
     LinkOf schema items c d left right collation
 Links schema items c d e = ⊥
 
--- D13's Linked: the closure of the links that these conjuncts make
+-- linked by one of these conjuncts, or by a chain of them
 pub data Linked (schema : Schema) (items : List Item) (es : List BExpr) : ColumnRef → ColumnRef
     → Type 0 where
   link : (c d : ColumnRef) (number : ℕ) (e : BExpr) → slice_get es number ≡ Some e
@@ -42,8 +45,8 @@ pub data Linked (schema : Schema) (items : List Item) (es : List BExpr) : Column
   chain : (c d e : ColumnRef) → Linked schema items es c d → Linked schema items es d e
       → Linked schema items es c e
 
--- the derived equality terms of an item: `c = e` for a linked d with a conjunct `d = e`, e naming
--- no column; and `c = d` for a linked d of another item
+-- what follows for a column c of the item: `c = e` where d is linked with c and a conjunct says `d
+-- = e` of a value e; and `c = d` where d is linked with c and is another item's
 pub data Derives (schema : Schema) (items : List Item) (es : List BExpr) (item : ℕ) : Term
     → Type 0 where
   by_key : (c d : ColumnRef) (number : ℕ) (e : BExpr) (key : KeyExpr) → c.item ≡ item

@@ -1,3 +1,4 @@
+-- Which plans fit a schema: each loop has a path that its statement's terms offer.
 use Rattle.std.specs.Prelude.{◌≡◌, ℕ, false, List, [], ◌∷◌, ◌≢◌, true, not, length}
 use Rattle.std.specs.List.{AllByRecursion}
 use Rattle.list_laws.specs.Nest.{Rearranges}
@@ -9,8 +10,8 @@ use Rattle.sql_meaning.specs.UsedTerms.{Used, PathCarries, UsedPlaced, UsedComes
 use Rattle.sql_meaning.specs.Expressions.{names}
 use Rattle.sql_meaning.specs.Rows.{Row}
 
--- D20, as far as the laws need it: the path carries terms of the item whose other items are placed,
--- and consumes direct ones alone
+-- an offer for an item that isn't placed yet: its path carries terms of the item whose keys are
+-- known, and consumes conjuncts of direct ones alone
 pub record IsOffer (schema : Schema) (bound : Bound) (placed : List ℕ) (loop : Loop) (used : Used) :
     Type 0 where
   pub fits : FitsStatement schema bound
@@ -20,7 +21,7 @@ pub record IsOffer (schema : Schema) (bound : Bound) (placed : List ℕ) (loop :
   pub comes : UsedComes schema bound loop.item used
   pub consumes : AllByRecursion (Consumes used) loop.consumed
 
--- an offer for each loop, after the items placed before
+-- an offer for each loop, after the items placed before it
 abbrev pub AreOffers : Schema → Bound → List ℕ → List Loop → (Loop → Used) → Type 0
 AreOffers schema bound placed [] used = Unit {0}
 AreOffers schema bound placed (l ∷ ls) used =
@@ -30,8 +31,8 @@ abbrev pub loop_items : List Loop → List ℕ
 loop_items [] = []
 loop_items (l ∷ ls) = l.item ∷ loop_items ls
 
--- the plan fits: each item stands in one loop, where only items that aren't LEFT change places,
--- each by an offer; and conjuncts name items of the statement alone
+-- the loops are offers: each item has one loop; items change places only with neighbours, and
+-- neither is LEFT; and conjuncts name items of the statement alone
 pub record FitsOffers (schema : Schema) (plan : Plan) : Type 0 where
   pub used : Loop → Used
   pub once : Rearranges (λ i. not (is_left plan.bound i)) (loop_items plan.loops)
@@ -42,7 +43,7 @@ pub record FitsOffers (schema : Schema) (plan : Plan) : Type 0 where
       (λ c. all_in (names c.expr) (loop_items plan.loops) ≡ true) plan.bound.conjuncts
   pub owners : OwnersAreLeft plan.bound
 
--- D7, as far as the laws need it: rowids rise strictly, and the alias column holds Int of the rowid
+-- what the laws need of a database: rows stand by rowid, and the alias holds the rowid
 pub record IsDatabase (schema : Schema) (bound : Bound) (database : List (List Row)) : Type 0 where
   pub rising : (item : ℕ) → RisingRows (item_rows database bound item)
   pub aliased : (item : ℕ)

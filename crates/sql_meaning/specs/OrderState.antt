@@ -1,3 +1,5 @@
+-- What order nested loops give by themselves, and when a plan must sort (optoverview, "ORDER BY
+-- Optimizations").
 use Rattle.std.specs.Prelude.{Bool, true, false, ℕ, ◌==◌, Option, Some, None, cond, List, [], ◌∷◌}
 use Rattle.std.specs.Prelude.{slice_get, ◌&&◌, ◌||◌, not, ◌+◌, ◌-◌, length, ◌≡◌, map}
 use Rattle.sql_meaning.specs.Values.{Collation, Binary}
@@ -10,8 +12,7 @@ use Rattle.sql_meaning.specs.Expressions.{ColumnRef, bare_column}
 use Rattle.sql_meaning.specs.Statements.{SortKey, Bound, item_alias}
 use Rattle.sql_meaning.specs.Plans.{Loop, Plan}
 
--- a position of a path: a column with collation and direction, and whether a One or Null part holds
--- it
+-- a column that a path walks in order, and whether one key holds it, so that it doesn't vary
 pub record Position : Type 0 where
   pub site : Site
   pub collation : Collation
@@ -23,7 +24,7 @@ is_one_key (OneKey key) = true
 is_one_key (ManyKeys keys) = false
 is_one_key NullKey = true
 
--- the alias is the rowid
+-- the alias of the rowid is the rowid
 abbrev pub is_alias : Option ℕ → ℕ → Bool
 is_alias None column = false
 is_alias (Some alias) column = alias == column
@@ -39,8 +40,7 @@ abbrev pub first_held : List EqPart → Bool
 first_held [] = false
 first_held (p ∷ ps) = is_one_key p
 
--- the index columns, then the rowid rising; where the alias is an index column, its position is the
--- last one
+-- the index's columns, then the rowid; after the alias nothing varies any more
 abbrev pub index_positions : Option ℕ → List IndexColumn → List EqPart → List Position
 index_positions alias [] eqs =
     record { site = AtRowid; collation = Binary; falling = false; held = false } ∷ []
@@ -57,6 +57,7 @@ abbrev pub columns_at : Option Index → List IndexColumn
 columns_at None = []
 columns_at (Some index) = index.columns
 
+-- the columns that a path walks in order
 abbrev pub positions : Schema → Option ℕ → Path → List Position
 positions schema alias TableScan =
     record { site = AtRowid; collation = Binary; falling = false; held = false } ∷ []
@@ -70,7 +71,7 @@ positions schema alias (IndexSeek index eqs low high) =
     index_positions alias (columns_at (slice_get schema.indexes index)) eqs
 positions schema alias (Union branches) = []
 
--- a One or Null part holds this column under this collation
+-- one key, or IS NULL, holds this column under this collation
 abbrev pub part_held : Option ℕ → List IndexColumn → List EqPart → Site → Collation → Bool
 part_held alias [] eqs site collation = false
 part_held alias (c ∷ cs) [] site collation = false
@@ -92,23 +93,24 @@ abbrev pub test_column : ℕ → (Site → Bool) → Option ColumnRef → Bool
 test_column item test None = false
 test_column item test (Some c) = (c.item == item) && test c.site
 
--- the key is a column of this item that a One or Null part holds with equal collation
+-- the key is a column of this item that one key holds under the same collation: all its rows tie by
+-- it
 abbrev pub key_held : Schema → Option ℕ → ℕ → Path → SortKey → Bool
 key_held schema alias item path k =
     test_column item (λ site. path_held schema alias path site k.collation) (bare_column k.expr)
 
--- the key is that column with equal collation
+-- the key is the column of this position, under the same collation
 abbrev pub key_matches : ℕ → Position → SortKey → Bool
 key_matches item p k =
     test_column item (λ site. same_site p.site site && same_collation p.collation k.collation)
     (bare_column k.expr)
 
--- walked backward, the position goes the key's way
+-- the position goes the key's way only if the walk is reversed
 abbrev pub needs_backward : Position → SortKey → Bool
 needs_backward p k = not (same_flag k.falling p.falling)
 
--- what a loop makes of the keys: it loses the order, or passes keys, in a direction once a match
--- fixed it
+-- what a loop makes of the keys: it loses the order, or leaves those that it does not give, walked
+-- in a direction once a match fixed one (`true` for backward)
 pub data Passing : Type 0 where
   Loses : Passing
   Leaves : (keys : List SortKey) (direction : Option Bool) → Passing
@@ -117,7 +119,7 @@ abbrev pub drop_held : (SortKey → Bool) → List SortKey → List SortKey
 drop_held held [] = []
 drop_held held (k ∷ ks) = cond (held k) (drop_held held ks) (k ∷ ks)
 
--- the first match fixes the direction, and each later one must agree
+-- the first match fixes the direction of the walk, and each later one must agree
 abbrev pub with_direction : Option Bool → Bool → (Bool → Passing) → Passing
 with_direction None needed go = go needed
 with_direction (Some d) needed go = cond (same_flag d needed) (go d) Loses
@@ -130,19 +132,20 @@ at_position item direction p go (k ∷ ks) =
     (cond (key_matches item p k)
     (with_direction direction (needs_backward p k) (λ d. go (Some d) ks)) Loses)
 
--- at each position: first the held keys are passed, then the position where it is held, else the
--- next key must be that column
+-- at each position: held keys are passed first; a held position is passed; else the next key must
+-- be that position's column
 abbrev pub pass : ℕ → (SortKey → Bool) → List Position → Option Bool → List SortKey → Passing
 pass item held [] direction keys = Leaves keys direction
 pass item held (p ∷ ps) direction keys =
     at_position item direction p (pass item held ps) (drop_held held keys)
 
--- a RowidEq that is One or Null counts as one with one key: it passes each next key that is a
--- column of this item
+-- a seek of one rowid gives one row at most, so it passes each next key that is a column of its
+-- item
 abbrev pub is_single : Path → Bool
 is_single (RowidEq part) = is_one_key part
 is_single path = false
 
+-- a union gives no order
 abbrev pub lost_by : Path → Bool
 lost_by (Union branches) = true
 lost_by path = false
@@ -155,7 +158,8 @@ loop_passes schema bound loop keys =
     (pass loop.item (key_held schema (item_alias schema bound loop.item) loop.item loop.path)
     (positions schema (item_alias schema bound loop.item) loop.path) None keys))
 
--- D16's state: done, lost, or open with the keys that are left
+-- done: the rows come in order, whatever the loops inside do. Open: each loop so far gives no two
+-- rows that tie, and these keys are left. Lost: the plan must sort
 pub data State : Type 0 where
   Done : State
   Lost : State
@@ -165,14 +169,14 @@ abbrev pub after_passing : Passing → (List SortKey → State) → State
 after_passing Loses go = Lost
 after_passing (Leaves keys direction) go = go keys
 
--- a loop is looked at only while the state is open
+-- from outside in; a loop is looked at only while the state is open
 abbrev pub state : Schema → Bound → List Loop → List SortKey → State
 state schema bound loops [] = Done
 state schema bound [] (k ∷ ks) = Open (k ∷ ks)
 state schema bound (l ∷ ls) (k ∷ ks) =
     after_passing (loop_passes schema bound l (k ∷ ks)) (state schema bound ls)
 
--- 5.8's numbers: Done 0, Lost 1, Open(j) 2 + j, where j keys are passed
+-- done 0, lost 1, and open 2 more than the number of keys that are passed
 abbrev pub state_number : List SortKey → State → ℕ
 state_number keys Done = 0
 state_number keys Lost = 1
@@ -191,15 +195,15 @@ abbrev pub directions_after : Passing → (List SortKey → List Bool) → List 
 directions_after Loses go = false ∷ []
 directions_after (Leaves keys direction) go = backward direction ∷ go keys
 
--- each loop's direction; a loop that isn't looked at goes forward
+-- each loop's direction, `true` for backward; a loop that isn't looked at goes forward
 abbrev pub directions : Schema → Bound → List Loop → List SortKey → List Bool
 directions schema bound [] keys = []
 directions schema bound (l ∷ ls) [] = false ∷ directions schema bound ls []
 directions schema bound (l ∷ ls) (k ∷ ks) =
     directions_after (loop_passes schema bound l (k ∷ ks)) (directions schema bound ls)
 
--- `sort` is set exactly where the state isn't Done, and `reverse` exactly where it is and the
--- loop's direction is backward
+-- the plan sorts exactly where its loops don't give the order; where they do, each walks in its
+-- direction, and where they don't, all walk forward
 pub record FitsOrder (schema : Schema) (plan : Plan) : Type 0 where
   pub sorts : plan.sort ≡ not (is_done (state schema plan.bound plan.loops plan.bound.keys))
   pub reverses : is_done (state schema plan.bound plan.loops plan.bound.keys) ≡ true

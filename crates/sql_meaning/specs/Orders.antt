@@ -1,3 +1,4 @@
+-- The order that ORDER BY asks for.
 use Rattle.std.specs.Prelude.{List, [], ◌∷◌, Bool, true, false, ◌==◌, cond, not}
 use Rattle.std.specs.declared.cmp.Ordering.{Ordering}
 use Rattle.std.specs.declared.cmp.Ordering.TheVariants.{Equal}
@@ -8,17 +9,17 @@ use Rattle.sql_meaning.specs.Evaluation.{ev}
 use Rattle.sql_meaning.specs.IndexLists.{directed}
 use Rattle.sql_meaning.specs.Statements.{SortKey}
 
--- D10: keys compare under D1, each with its collation and direction
+-- a key compares values by its collation, in its direction
 abbrev pub key_cmp : List Value → SortKey → Assignment → Assignment → Ordering
 key_cmp params k a b =
     directed k.falling (value_cmp k.collation) (ev a params k.expr) (ev b params k.expr)
 
--- by each element in turn
+-- by each member in turn
 abbrev pub lex_of : {K : Type 0} → (K → Ordering) → List K → Ordering
 lex_of f [] = Equal
 lex_of f (k ∷ ks) = ordering_then (f k) (lex_of f ks)
 
--- D10's order of assignments: by each key in turn
+-- by each key in turn
 abbrev pub by_keys : List Value → List SortKey → Assignment → Assignment → Ordering
 by_keys params ks a b = lex_of (λ k. key_cmp params k a b) ks
 

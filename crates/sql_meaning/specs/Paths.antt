@@ -1,3 +1,4 @@
+-- The ways to a table's rows: scans, seeks by rowid or index, and unions of them (eqp).
 use Rattle.std.specs.Prelude.{Option, List, Bool, ℕ, map, Some, None, [], ◌∷◌, ◌++◌, false, ◌||◌}
 use Rattle.std.specs.Prelude.{true}
 use Rattle.std.specs.Ordering.{int_cmp, on, eq_by_cmp}
@@ -11,21 +12,23 @@ use Rattle.sql_meaning.specs.Walks.{Part, One, Many, NullPart, End, seek, parts_
 use Rattle.sql_meaning.specs.IndexLists.{SortColumn, by_rowid, sort_columns, entries}
 use Rattle.sql_meaning.specs.Schemas.{Schema}
 
--- a key: an expression with its conversion
+-- a key: an expression over the items placed before, with its conversion
 pub record KeyExpr : Type 0 where
   pub expr : BExpr
   pub conversion : Option Affinity
 
+-- an equality part of a seek: `= key`, `IN (keys)`, `IS NULL`
 pub data EqPart : Type 0 where
   OneKey : (key : KeyExpr) → EqPart
   ManyKeys : (keys : List KeyExpr) → EqPart
   NullKey : EqPart
 
+-- an end of the range of a seek
 pub record Edge : Type 0 where
   pub key : KeyExpr
   pub inclusive : Bool
 
--- 4.10's paths; a list of them is a type of its own
+-- an index is given by its number in the schema; a list of paths is a type of its own
 mutual
   pub data Path : Type 0 where
     TableScan : Path
@@ -52,7 +55,7 @@ end_value env params None = None
 end_value env params (Some e) =
     Some (record { key = key_value env params e.key; inclusive = e.inclusive })
 
--- what a path that isn't a union seeks along and by
+-- what a path that isn't a union seeks along, and by
 pub record SeekForm : Type 0 where
   pub columns : List SortColumn
   pub eqs : List EqPart
@@ -71,7 +74,7 @@ form_of schema (IndexSeek index eqs low high) =
     record { columns = sort_columns schema index; eqs = eqs; low = low; high = high }
 form_of schema (Union branches) = record { columns = []; eqs = []; low = None; high = None }
 
--- the list that a path goes along: the rows by rowid, or D8's list
+-- the list that a path goes along: the rows by rowid, or the index's list
 abbrev pub path_list : Schema → Path → List Row → List Row
 path_list schema TableScan rows = rows
 path_list schema (RowidEq part) rows = rows
@@ -93,8 +96,8 @@ form_holds f params env row =
 abbrev pub same_rowid : Row → Row → Bool
 same_rowid = eq_by_cmp (on (λ row. row.rowid) int_cmp)
 
--- D14: the walk of a path for given rows of the placed items; a union walks its branches in turn
--- and keeps each rowid at its first coming
+-- the rows that a path gives, for given rows of the placed items, in its order; a union walks its
+-- branches in turn and keeps each rowid at its first coming
 abbrev mutual
   pub walk : Schema → List Value → Path → List Row → Assignment → List Row
   walk schema params TableScan rows env =

@@ -1,3 +1,4 @@
+-- Plans: nested loops over paths, and what they answer (eqp, "nested loops").
 use Rattle.std.specs.Prelude.{ℕ, Bool, List, reverse, true, false, Option, map, Some, [], ◌∷◌}
 use Rattle.std.specs.List.{filter, flat_map}
 use Rattle.list_laws.specs.Nest.{place, Step, nested}
@@ -9,12 +10,15 @@ use Rattle.sql_meaning.specs.Values.{Value}
 use Rattle.sql_meaning.specs.Schemas.{Schema}
 use Rattle.sql_meaning.specs.Conjuncts.{level_test}
 
+-- a loop of a plan: its item, its path, whether it walks backward, and the numbers of the conjuncts
+-- that its path makes true, which are not tested again
 pub record Loop : Type 0 where
   pub item : ℕ
   pub path : Path
   pub reverse : Bool
   pub consumed : List ℕ
 
+-- the loops from outside in; `sort` where a sort by the keys follows
 pub record Plan : Type 0 where
   pub bound : Bound
   pub loops : List Loop
@@ -28,8 +32,8 @@ abbrev pub missing_if : Bool → List (Option Row) → List (Option Row)
 missing_if true xs = or_missing xs
 missing_if false xs = xs
 
--- D15 with R15: the rows of the walk are kept on which the conjuncts owned by this item hold; at a
--- LEFT item, where no row is kept, the missing row stands once
+-- the rows of a loop: those of its walk on which the conjuncts that this item owns hold; at a LEFT
+-- item, where none is left, the missing row stands once
 abbrev pub loop_walk : Schema → List (List Row) → Bound → List Value → List ℕ → List ℕ → Loop
     → Assignment → List (Option Row)
 loop_walk schema database bound params consumed placed loop env =
@@ -42,7 +46,7 @@ loop_walk schema database bound params consumed placed loop env =
     (directed_walk loop.reverse
     (walk schema params loop.path (item_rows database bound loop.item) env))))
 
--- then the common conjuncts of this level are tested; `used` is for the laws alone
+-- then the common conjuncts of this loop are tested; `used` plays no part in it
 abbrev pub step_of : Schema → List (List Row) → Bound → List Value → List ℕ → List ℕ → Loop
     → (Assignment → Bool) → Step (Option Row)
 step_of schema database bound params consumed placed loop used = record {
@@ -55,10 +59,11 @@ step_of schema database bound params consumed placed loop used = record {
 abbrev pub always : Assignment → Bool
 always env = true
 
+-- a conjunct that a path consumed is tested at no loop
 abbrev pub consumed_by : List Loop → List ℕ
 consumed_by loops = flat_map (λ l. l.consumed) loops
 
--- a step for each loop, after the items placed before
+-- a step for each loop, after the items placed before it
 abbrev pub steps_of : Schema → List (List Row) → Bound → List Value → List ℕ
     → (Loop → Assignment → Bool) → List ℕ → List Loop → List (Step (Option Row))
 steps_of schema database bound params consumed used placed [] = []
@@ -66,7 +71,7 @@ steps_of schema database bound params consumed used placed (l ∷ ls) =
     step_of schema database bound params consumed placed l (used l)
     ∷ steps_of schema database bound params consumed used (l.item ∷ placed) ls
 
--- the nested walks in plan order
+-- the nested loops of the plan, on a database
 abbrev pub plan_walks : Schema → List (List Row) → Plan → List Value → List Assignment
 plan_walks schema database plan params =
     nested

@@ -1,3 +1,4 @@
+-- Tables, indexes, and the databases that a schema allows (fileformat2, withoutrowid left out).
 use Rattle.std.specs.Prelude.{ℕ, List, Option, Bool, Some, None, slice_get, [], ◌≡◌, ◌∷◌}
 use Rattle.std.specs.Prelude.{slice_index_or, length}
 use Rattle.std.specs.List.{AllByRecursion}
@@ -11,10 +12,12 @@ pub record TableColumn : Type 0 where
   pub affinity : Affinity
   pub collation : Collation
 
+-- `alias` is the column that is an alias of the rowid
 pub record Table : Type 0 where
   pub columns : List TableColumn
   pub alias : Option ℕ
 
+-- a key of an index: a column, its collation, and whether it falls
 pub record IndexColumn : Type 0 where
   pub column : ℕ
   pub collation : Collation
@@ -28,6 +31,7 @@ pub record Schema : Type 0 where
   pub tables : List Table
   pub indexes : List Index
 
+-- a column that isn't there has no affinity and compares as bytes
 abbrev pub column_or : Option TableColumn → TableColumn
 column_or None = record { affinity = BlobAffinity; collation = Binary }
 column_or (Some c) = c
@@ -44,18 +48,18 @@ abbrev pub columns_of : Option Table → List TableColumn
 columns_of None = []
 columns_of (Some t) = t.columns
 
--- rowids rise strictly
+-- the rows of a table, by rowid; no two have the same
 abbrev pub RisingRows : List Row → Type 0
 RisingRows [] = Unit {0}
 RisingRows (row ∷ rows) =
     AllByRecursion (λ later. int_cmp row.rowid later.rowid ≡ Less) rows × RisingRows rows
 
--- D7: the alias column holds Int of the rowid
+-- the alias of the rowid, an INTEGER PRIMARY KEY, holds the rowid
 abbrev pub AliasHolds : Option ℕ → Row → Type 0
 AliasHolds alias row =
     (column : ℕ) → alias ≡ Some column → slice_index_or row.values column Null ≡ Int row.rowid
 
--- D7: a row of a table
+-- a row that may stand in the table: each value is one that its column's affinity leaves as it is
 pub record ConformsTo (table : Option Table) (row : Row) : Type 0 where
   pub rowid : IsValue (Int row.rowid)
   pub full : length row.values ≡ length (columns_of table)
@@ -65,7 +69,7 @@ pub record ConformsTo (table : Option Table) (row : Row) : Type 0 where
       → IsFixed column.affinity (slice_index_or row.values number Null)
   pub alias : AliasHolds (alias_of table) row
 
--- D7: a database of a schema; UNIQUE and NOT NULL are not asked
+-- a database of the schema; UNIQUE and NOT NULL are not asked, so the laws hold without them
 pub record IsDatabaseOf (schema : Schema) (database : List (List Row)) : Type 0 where
   pub rising : (table : ℕ) → RisingRows (slice_index_or database table [])
   pub conforms : (table : ℕ)

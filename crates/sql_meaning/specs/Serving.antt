@@ -1,3 +1,5 @@
+-- The term that a conjunct gives, as a function: what `Serves` allows, in the order in which it is
+-- tried.
 use Rattle.std.specs.Prelude.{Bool, true, false, Option, Some, None, ℕ, cond, ◌&&◌, ◌==◌, not, List}
 use Rattle.std.specs.Prelude.{◌∷◌, [], suc, ◌++◌}
 use Rattle.sql_meaning.specs.Values.{Collation, Affinity}
@@ -11,7 +13,7 @@ use Rattle.sql_meaning.specs.Paths.{KeyExpr}
 use Rattle.sql_meaning.specs.Orders.{same_collation, same_site}
 use Rattle.sql_meaning.specs.Conjuncts.{may_serve}
 
--- what a conjunct says of a column of an item
+-- a conjunct's term, but for its number
 pub record Served : Type 0 where
   pub site : Site
   pub collation : Collation
@@ -21,8 +23,7 @@ abbrev pub no_conversion : Option Affinity → Bool
 no_conversion None = true
 no_conversion (Some aff) = false
 
--- the column stands bare on this side_conversion, is one of the item's, and the other
--- side_conversion is in order
+-- this side is a column of the item, and the other side is fit to be its key
 abbrev pub side_served : ℕ → Option ColumnRef → Bool → Option TermKind → Collation → Option Served
 side_served item None ok kind collation = None
 side_served item (Some c) ok None collation = None
@@ -34,7 +35,7 @@ abbrev pub served_or : Option Served → Option Served → Option Served
 served_or None o = o
 served_or (Some s) o = Some s
 
--- 5.5's first case, from the left side_conversion, else from the right one
+-- a comparison serves from its left side, else from its right side
 abbrev pub comparison_served : ℕ → BExpr → Option Served
 comparison_served item (Cmp op left right left_conversion right_conversion collation) =
     served_or
@@ -60,7 +61,7 @@ keys_or None o = None
 keys_or (Some key) None = None
 keys_or (Some key) (Some keys) = Some (key ∷ keys)
 
--- the keys of an OR list of equalities of this column under this collation
+-- the keys of an OR, where each of its members is an equality of this column under this collation
 abbrev pub keys_under : ℕ → Site → Collation → BExprs → Option (List KeyExpr)
 keys_under item site collation Nil = Some []
 keys_under item site collation (More e es) =
@@ -86,7 +87,7 @@ null_served own item (Some c) =
     cond (c.item == item)
     (Some (record { site = c.site; collation = own c.site; kind = IsNothing })) None
 
--- D12 without MayServe, as a function; `own` gives a column's own collation, for IS NULL
+-- what a conjunct says of an item; `own` gives a column's own collation, which IS NULL takes
 abbrev pub serving : (Site → Collation) → ℕ → BExpr → Option Served
 serving own item (Cmp op left right left_conversion right_conversion collation) =
     comparison_served item (Cmp op left right left_conversion right_conversion collation)
@@ -108,7 +109,7 @@ abbrev pub if_allowed : Bool → Option Served → Option Served
 if_allowed true o = o
 if_allowed false o = None
 
--- 5.5: the direct terms of an item by conjunct number
+-- the direct terms of an item, by conjunct number
 abbrev pub direct_terms : (Site → Collation) → Bound → ℕ → ℕ → List Conjunct → List Term
 direct_terms own bound item number [] = []
 direct_terms own bound item number (c ∷ cs) =

@@ -1,3 +1,4 @@
+-- A bound statement, and its rows: what the statement asks for, without any plan.
 use Rattle.std.specs.Prelude.{ℕ, Option, Bool, ℤ, List, false, ◌||◌, ◌==◌, [], ◌∷◌, true, ◌&&◌}
 use Rattle.std.specs.Prelude.{Some, None, slice_get, not, slice_index_or, cond, map, zero, suc, ◌+◌}
 use Rattle.std.specs.Prelude.{length, replicate, ◌≡◌, pos, negsuc, take, drop}
@@ -10,22 +11,23 @@ use Rattle.sql_meaning.specs.Rows.{Assignment, Row, AtRowid, cell}
 use Rattle.sql_meaning.specs.Evaluation.{holds, param_value, ev}
 use Rattle.sql_meaning.specs.Schemas.{Schema, alias_of}
 
--- a conjunct from the ON condition of a LEFT item has that item as its owner; every other one is
--- common
+-- a conjunct of the ON condition of a LEFT JOIN is owned by that item; every other one is common
 pub record Conjunct : Type 0 where
   pub expr : BExpr
   pub owner : Option ℕ
 
+-- a key of ORDER BY
 pub record SortKey : Type 0 where
   pub expr : BExpr
   pub collation : Collation
   pub falling : Bool
 
+-- LIMIT or OFFSET: a number, or a parameter
 pub data Cut : Type 0 where
   Count : (n : ℤ) → Cut
   Given : (number : ℕ) → Cut
 
--- a bound statement
+-- `rowids` for UPDATE and DELETE, whose result is the rowids of the rows that they change
 pub record Bound : Type 0 where
   pub items : List Item
   pub rowids : Bool
@@ -65,13 +67,13 @@ no_owner (Some owner) = false
 abbrev pub is_common : Conjunct → Bool
 is_common c = no_owner c.owner
 
--- the chosen ones of the conjuncts hold
+-- each conjunct that is chosen holds
 abbrev pub chosen_hold : (Conjunct → Bool) → List Value → List Conjunct → Assignment → Bool
 chosen_hold chosen params [] env = true
 chosen_hold chosen params (c ∷ cs) env =
     (not (chosen c) || holds env params c.expr) && chosen_hold chosen params cs env
 
--- the missing row where there is no row
+-- the missing row stands where there is no row
 abbrev pub or_missing : List (Option Row) → List (Option Row)
 or_missing [] = None ∷ []
 or_missing (x ∷ xs) = x ∷ xs
@@ -83,8 +85,8 @@ table_of (Some item) = item.table
 abbrev pub item_rows : List (List Row) → Bound → ℕ → List Row
 item_rows database bound item = slice_index_or database (table_of (slice_get bound.items item)) []
 
--- D9 with R15: each row of the table; of a LEFT item each row on which all its own conjuncts hold,
--- and the missing row where there is no such row
+-- the rows of an item for given rows of the items to its left: each row of its table; of a LEFT
+-- item each row on which its own conjuncts hold, and the missing row where there is no such row
 abbrev pub choices : List (List Row) → Bound → List Value → ℕ → Assignment → List (Option Row)
 choices database bound params item env =
     cond (is_left bound item)
@@ -100,7 +102,7 @@ numbers_from start (suc n) = start ∷ numbers_from (start + 1) n
 abbrev pub no_rows : Bound → Assignment
 no_rows bound = replicate (length bound.items) None
 
--- D9: built from left to right, and kept where every common conjunct holds
+-- one row of each item, in every way, kept where each common conjunct holds (lang_select)
 abbrev pub statement_rows : Bound → List (List Row) → List Value → List Assignment
 statement_rows bound database params =
     filter (chosen_hold is_common params bound.conjuncts)
@@ -113,12 +115,12 @@ item_alias schema bound item =
 abbrev pub exprs_of : List Conjunct → List BExpr
 exprs_of cs = map (λ c. c.expr) cs
 
--- the conjuncts fit the schema
+-- each conversion in the conjuncts is the one that its operands ask for
 abbrev pub FitsStatement : Schema → Bound → Type 0
 FitsStatement schema bound =
     AllByRecursion (λ c. FitsExpr schema bound.items c.expr) bound.conjuncts
 
--- R15: each owner is a LEFT item
+-- each owner is a LEFT item
 abbrev pub OwnersAreLeft : Bound → Type 0
 OwnersAreLeft bound =
     AllByRecursion
@@ -136,7 +138,7 @@ cut_value params None = None
 cut_value params (Some (Count n)) = Some n
 cut_value params (Some (Given number)) = int_of (param_value params number)
 
--- a negative LIMIT, or one that isn't Int, makes no cut; such an OFFSET counts as 0
+-- a LIMIT that is negative or no Int makes no cut; such an OFFSET counts as 0
 abbrev pub take_cut : {X : Type 0} → Option ℤ → List X → List X
 take_cut None xs = xs
 take_cut (Some (pos n)) xs = take n xs
@@ -147,12 +149,12 @@ drop_cut None xs = xs
 drop_cut (Some (pos n)) xs = drop n xs
 drop_cut (Some (negsuc n)) xs = xs
 
--- D10's Cut
+-- the rows that OFFSET and LIMIT leave of a list
 abbrev pub cut : {X : Type 0} → Bound → List Value → List X → List X
 cut bound params list =
     take_cut (cut_value params bound.limit) (drop_cut (cut_value params bound.offset) list)
 
--- D9's Image
+-- the result of an assignment: the values of a SELECT, or the rowid that UPDATE and DELETE change
 abbrev pub image : Bound → List Value → Assignment → List Value
 image bound params env =
     cond bound.rowids (cell env 0 AtRowid ∷ []) (map (ev env params) bound.results)

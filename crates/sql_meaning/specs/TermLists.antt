@@ -1,3 +1,4 @@
+-- The terms of an item, as lists: direct ones, derived ones, and those of the branches of an OR.
 use Rattle.std.specs.Prelude.{Bool, ◌&&◌, ◌==◌, ℕ, cond, not, List, [], ◌∷◌, Option, Some, None}
 use Rattle.std.specs.Prelude.{false, ◌||◌, zero, suc, ◌+◌, length, ◌++◌, true, map, slice_get}
 use Rattle.std.specs.List.{flat_map, filter}
@@ -35,7 +36,7 @@ pub record Pair : Type 0 where
   pub first : ColumnRef
   pub second : ColumnRef
 
--- the two columns that a conjunct links
+-- the two columns that a comparison links
 abbrev pub pair_of : Schema → List Item → Option ColumnRef → Option ColumnRef → Collation
     → List Pair
 pair_of schema items None d collation = []
@@ -78,11 +79,12 @@ abbrev pub site_number : Site → ℕ
 site_number AtRowid = 0
 site_number (AtColumn column) = column + 1
 
--- by item and column, the rowid first
+-- by item, then by column, the rowid first
 abbrev pub ref_cmp : ColumnRef → ColumnRef → Ordering
 ref_cmp = then_cmp (on (λ c. c.item) nat_cmp) (on (λ c. site_number c.site) nat_cmp)
 
--- the columns that are linked with c, without c, by item and column
+-- the columns that are linked with c but c itself, by item and column: each pass over the links
+-- reaches one column more, or no pass does
 abbrev pub linked_to : Schema → List Item → List BExpr → ColumnRef → List ColumnRef
 linked_to schema items es c =
     sort_by ref_cmp
@@ -109,7 +111,8 @@ column_term schema items item c d =
     cond (d.item == item) []
     (derived_term schema items c (record { expr = ref_expr d; conversion = None }) ∷ [])
 
--- 5.5's derived equalities of a column: `c = e` by conjunct number, then `c = d` by item and column
+-- the equalities that follow for a column: `c = e` by conjunct number, then `c = d` by item and
+-- column
 abbrev pub derived_terms : Schema → List Item → List BExpr → ℕ → ColumnRef → List Term
 derived_terms schema items es item c =
     flat_map
@@ -147,7 +150,7 @@ own_terms schema bound item =
     (λ site. (own_column schema bound.items (record { item = item; site = site })).collation) bound
     item 0 bound.conjuncts
 
--- 5.5's order: direct = and IS NULL, derived ones, IN terms; lower and upper bounds
+-- of equality terms `=` and IS NULL come first, then derived ones, then IN
 abbrev pub column_terms : Schema → Bound → ℕ → Site → ColumnTerms
 column_terms schema bound item site = record {
   column = site;
@@ -168,12 +171,12 @@ all_sites schema bound item =
     (numbers_from 0
     (length (columns_of (slice_get schema.tables (table_of (slice_get bound.items item))))))
 
--- D13's terms of an item; a column without a term does no harm
+-- the terms of an item, by column; a column without a term is harmless
 abbrev pub item_terms : Schema → Bound → ℕ → List ColumnTerms
 item_terms schema bound item = map (column_terms schema bound item) (all_sites schema bound item)
 
--- the terms of an OR branch, from the branch's conjuncts alone; all have the number of the OR
--- conjunct
+-- the terms of a branch of an OR, from the conjuncts of that branch alone; all have the number of
+-- the OR
 abbrev pub branch_own : Schema → Bound → ℕ → ℕ → List BExpr → List Term
 branch_own schema bound item number es =
     flat_map

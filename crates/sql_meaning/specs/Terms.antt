@@ -1,3 +1,5 @@
+-- Terms: what a conjunct says of one column, so that an index can be used (optoverview, "WHERE
+-- Clause Analysis").
 use Rattle.std.specs.Prelude.{Bool, List, ℕ, Option, [], ◌∷◌, cond, map, true, ◌&&◌, false, Some}
 use Rattle.std.specs.Prelude.{None, ◌≡◌, ◌≢◌, ◌⊎◌, ◌++◌}
 use Rattle.std.specs.List.{AllByRecursion}
@@ -11,7 +13,8 @@ use Rattle.sql_meaning.specs.Expressions.{Cmp, all_names, OneOf, IsNull, Any}
 use Rattle.sql_meaning.specs.Evaluation.{compares, equals_any}
 use Rattle.sql_meaning.specs.IndexLists.{SortColumn}
 
--- what a term says of its column: equality, IN, IS NULL, lower and upper bound
+-- what a term says of its column: `= key`, `IN (keys)`, `IS NULL`, `> key` or `>= key`, `< key` or
+-- `<= key`
 pub data TermKind : Type 0 where
   Equals : (key : KeyExpr) → TermKind
   Within : (keys : List KeyExpr) → TermKind
@@ -19,7 +22,8 @@ pub data TermKind : Type 0 where
   Low : (key : KeyExpr) (inclusive : Bool) → TermKind
   High : (key : KeyExpr) (inclusive : Bool) → TermKind
 
--- a term; a derived one has no conjunct
+-- a term keeps the collation of its comparison and the number of its conjunct; a derived one has no
+-- conjunct
 pub record Term : Type 0 where
   pub column : Site
   pub conjunct : Option ℕ
@@ -56,6 +60,7 @@ terms_true env params (t ∷ ts) row =
     kind_holds env params t.collation t.kind (site_value t.column row)
     && terms_true env params ts row
 
+-- the comparison that says the same with its sides exchanged
 abbrev pub flipped : Op → Op
 flipped IsEqual = IsEqual
 flipped IsUnequal = IsUnequal
@@ -73,7 +78,7 @@ kind_of IsAtMost key = Some (High key true)
 kind_of IsAbove key = Some (Low key false)
 kind_of IsAtLeast key = Some (Low key true)
 
--- one side_conversion is the column and is converted by nothing, and the other names no column of
+-- one side is the column, which the comparison does not convert, and the other names no column of
 -- the item
 pub record SideServes (item : ℕ) (site : Site) (kind : TermKind) (op : Op) (own other : BExpr) (own_conversion other_conversion : Option Affinity) :
     Type 0 where
@@ -87,7 +92,7 @@ entry_keys converted Nil = []
 entry_keys converted (More e es) =
     record { expr = e; conversion = converted } ∷ entry_keys converted es
 
--- 5.5's first case: a comparison
+-- a comparison serves the column on either side of it
 abbrev pub ComparisonServes : ℕ → Site → Collation → TermKind → BExpr → Type 0
 ComparisonServes item site collation kind (Cmp op left right left_conversion right_conversion c) =
     (c ≡ collation)
@@ -109,13 +114,15 @@ pub record ListServes (item : ℕ) (site : Site) (kind : TermKind) (own : BExpr)
   pub foreign : AllByRecursion (λ i. i ≢ item) (all_names entries)
   pub says : kind ≡ Within (entry_keys entry_conversion entries)
 
+-- the OR of these equalities is an IN over their other sides, each with its own conversion
 pub record OrServes (item : ℕ) (site : Site) (collation : Collation) (kind : TermKind) (es : BExprs) :
     Type 0 where
   pub keys : List KeyExpr
   pub equalities : AreEqualities item site collation es keys
   pub says : kind ≡ Within keys
 
--- D12 without MayServe: a comparison, an IN list, IS NULL, or an OR list of equalities
+-- the conjunct serves a column of the item: it is a comparison, an IN list, IS NULL, or an OR list
+-- of equalities of one column under one collation
 abbrev pub Serves : ℕ → Site → Collation → TermKind → BExpr → Type 0
 Serves item site collation kind (Cmp op left right left_conversion right_conversion c) =
     ComparisonServes item site collation kind (Cmp op left right left_conversion right_conversion c)
@@ -127,13 +134,13 @@ Serves item site collation kind (IsNull negated own) =
 Serves item site collation kind (Any es) = OrServes item site collation kind es
 Serves item site collation kind e = ⊥
 
--- the column of the index is the rowid, being the alias
+-- the column is the rowid, or its alias
 abbrev pub IsRowid : Option ℕ → Site → Type 0
 IsRowid alias AtRowid = Unit {0}
 IsRowid alias (AtColumn column) = alias ≡ Some column
 
--- a term may be used for a column whose collation is equal; IS NULL, and every term on the rowid,
--- need no equal collation
+-- a term may be used for a sorted column of its collation; IS NULL, and a term on the rowid, may be
+-- used whatever the collation is
 abbrev pub MayUse : Option ℕ → SortColumn → Term → Type 0
 MayUse alias s t =
     ((t.column ≡ s.site) × ((t.collation ≡ s.collation) ⊎ (t.kind ≡ IsNothing)))
@@ -156,8 +163,8 @@ HighFrom alias s None ts = ts ≡ []
 HighFrom alias s (Some e) ts =
     (t : Term) × (ts ≡ t ∷ []) × MayUse alias s t × (t.kind ≡ High e.key e.inclusive)
 
--- the used terms are those whose keys the path carries: a part for each of the first columns, then
--- the bounds on the next
+-- these are the terms whose keys the parts and bounds are: a part on each of the first columns,
+-- then the bounds on the next
 abbrev pub Carries : Option ℕ → List SortColumn → List EqPart → Option Edge → Option Edge
     → List Term → Type 0
 Carries alias [] eqs low high ts = ts ≡ []

@@ -1,3 +1,4 @@
+-- The terms that a path uses, where they come from, and what the path consumes.
 use Rattle.std.specs.Prelude.{List, ℕ, Bool, true, ◌&&◌, [], ◌∷◌, false, ◌||◌, ◌≡◌, Option, Some}
 use Rattle.std.specs.Prelude.{slice_get, ◌⊎◌, None}
 use Rattle.std.specs.List.{AllByRecursion, filter}
@@ -11,7 +12,7 @@ use Rattle.sql_meaning.specs.Statements.{has_number, Conjunct, Bound, exprs_of}
 use Rattle.sql_meaning.specs.Conjuncts.{may_serve, may_derive}
 use Rattle.sql_meaning.specs.Links.{Derives}
 
--- the used terms of a path; of a union, those of each branch
+-- the terms whose keys a path carries; of a union, those of each branch
 pub data Used : Type 0 where
   AllOf : (ts : List Term) → Used
   AnyOf : (tss : List (List Term)) → Used
@@ -24,11 +25,12 @@ abbrev pub any_terms : Assignment → List Value → ℕ → List (List Term) �
 any_terms env params item [] = false
 any_terms env params item (ts ∷ tss) = all_terms env params item ts || any_terms env params item tss
 
--- each used term holds; of a union, those of some branch
+-- each used term holds; of a union, those of some branch do
 abbrev pub used_holds : Assignment → List Value → ℕ → Used → Bool
 used_holds env params item (AllOf ts) = all_terms env params item ts
 used_holds env params item (AnyOf tss) = any_terms env params item tss
 
+-- a branch of a union is no union
 abbrev pub BranchesCarry : Schema → Option ℕ → Paths → List (List Term) → Type 0
 BranchesCarry schema alias Nowhere [] = Unit {0}
 BranchesCarry schema alias Nowhere (ts ∷ tss) = ⊥
@@ -37,14 +39,14 @@ BranchesCarry schema alias (Then p ps) (ts ∷ tss) =
     (is_union p ≡ false) × FormCarries alias (form_of schema p) ts
     × BranchesCarry schema alias ps tss
 
--- these are the terms whose keys the path carries
+-- these are the terms whose keys the path carries, column by column
 abbrev pub PathCarries : Schema → Option ℕ → Path → Used → Type 0
 PathCarries schema alias (Union ps) (AllOf ts) = ⊥
 PathCarries schema alias (Union ps) (AnyOf tss) = BranchesCarry schema alias ps tss
 PathCarries schema alias path (AllOf ts) = FormCarries alias (form_of schema path) ts
 PathCarries schema alias path (AnyOf tss) = ⊥
 
--- a term may be used where the items that its other side_conversion names are placed
+-- a term may be used where the items that its key names are placed
 abbrev pub KeysPlaced : List ℕ → Term → Type 0
 KeysPlaced placed t =
     AllByRecursion (λ k. AllByRecursion (λ i. has_number i placed ≡ true) (names k.expr))
@@ -54,7 +56,7 @@ abbrev pub UsedPlaced : List ℕ → Used → Type 0
 UsedPlaced placed (AllOf ts) = AllByRecursion (KeysPlaced placed) ts
 UsedPlaced placed (AnyOf tss) = AllByRecursion (λ ts. AllByRecursion (KeysPlaced placed) ts) tss
 
--- a direct term of a conjunct that MayServe allows the item
+-- a term that a conjunct serves, where this conjunct may serve the item
 pub record IsDirect (bound : Bound) (item : ℕ) (t : Term) : Type 0 where
   pub number : ℕ
   pub conjunct : Conjunct
@@ -63,22 +65,21 @@ pub record IsDirect (bound : Bound) (item : ℕ) (t : Term) : Type 0 where
   pub serves : Serves item t.column t.collation t.kind conjunct.expr
   pub numbered : t.conjunct ≡ Some number
 
--- D13: the terms of an item come from conjuncts that MayServe allows it, or are derived from those
--- that MayDerive allows it
+-- each term of an item is a direct one or follows from common conjuncts
 abbrev pub IsTerm : Schema → Bound → ℕ → Term → Type 0
 IsTerm schema bound item t =
     IsDirect bound item t
     ⊎ ((t.conjunct ≡ None)
     × Derives schema bound.items (exprs_of (filter (may_derive bound item) bound.conjuncts)) item t)
 
--- a term of an OR branch, as a conjunct list of its own
+-- a term of a branch of an OR: the branch is a conjunct list of its own
 abbrev pub IsBranchTerm : Schema → Bound → Conjunct → ℕ → List BExpr → Term → Type 0
 IsBranchTerm schema bound c item es t =
     ((number : ℕ) × (e : BExpr) × (slice_get es number ≡ Some e)
     × Serves item t.column t.collation t.kind e)
     ⊎ ((may_derive bound item c ≡ true) × Derives schema bound.items es item t)
 
--- each branch has terms, from the conjuncts of that branch alone
+-- the terms of each branch come from the conjuncts of that branch alone
 abbrev pub AreBranchTerms : Schema → Bound → Conjunct → ℕ → BExprs → List (List Term) → Type 0
 AreBranchTerms schema bound c item Nil [] = Unit {0}
 AreBranchTerms schema bound c item Nil (ts ∷ tss) = ⊥
@@ -87,7 +88,7 @@ AreBranchTerms schema bound c item (More e es) (ts ∷ tss) =
     AllByRecursion (IsBranchTerm schema bound c item (flat e)) ts
     × AreBranchTerms schema bound c item es tss
 
--- an OR conjunct that MayServe allows the item, with the terms of its branches
+-- an OR that may serve the item, with terms for each of its branches
 pub record IsOrTerm (schema : Schema) (bound : Bound) (item : ℕ) (tss : List (List Term)) : Type 0
   where
     pub number : ℕ
@@ -98,11 +99,13 @@ pub record IsOrTerm (schema : Schema) (bound : Bound) (item : ℕ) (tss : List (
     pub any : conjunct.expr ≡ Any branches
     pub terms : AreBranchTerms schema bound conjunct item branches tss
 
+-- the terms of a path are terms of its item, or of the branches of one OR
 abbrev pub UsedComes : Schema → Bound → ℕ → Used → Type 0
 UsedComes schema bound item (AllOf ts) = AllByRecursion (IsTerm schema bound item) ts
 UsedComes schema bound item (AnyOf tss) = IsOrTerm schema bound item tss
 
--- a path consumes the direct conjuncts whose terms it uses; a union consumes nothing
+-- a path consumes the conjuncts whose direct terms it uses; a derived term consumes nothing, nor
+-- does a union
 abbrev pub Consumes : Used → ℕ → Type 0
 Consumes (AllOf ts) number =
     (k : ℕ) × (t : Term) × (slice_get ts k ≡ Some t) × (t.conjunct ≡ Some number)

@@ -1,3 +1,4 @@
+-- The walk of a sorted list: equality parts on its first columns, bounds on the next one.
 use Rattle.std.specs.Prelude.{Bool, List, cond, ◌||◌, Option, Some, None, false, true, [], not, ◌∷◌}
 use Rattle.std.specs.Prelude.{◌&&◌}
 use Rattle.std.specs.Ordering.{is_lt, is_le, is_gt, is_ge, eq_by_cmp}
@@ -11,25 +12,25 @@ use Rattle.sql_meaning.specs.IndexLists.{SortColumn, column_cmp}
 use Rattle.sql_meaning.specs.Expressions.{IsEqual, IsAbove, IsAtLeast, IsBelow, IsAtMost}
 use Rattle.sql_meaning.specs.Evaluation.{compares, equals_any}
 
--- an end of a range, with its key's value
+-- an end of a range, its key already a value
 pub record End : Type 0 where
   pub key : Value
   pub inclusive : Bool
 
--- an equality part, with its keys' values
+-- an equality part, its keys already values: `= key`, `IN (keys)`, `IS NULL`
 pub data Part : Type 0 where
   One : (key : Value) → Part
   Many : (keys : List Value) → Part
   NullPart : Part
 
--- stands before the range: the NULLs do, and what is below the lower end
+-- the value stands before the range: a NULL does, and what is below the lower end
 abbrev pub is_below : Collation → Option End → Value → Bool
 is_below collation None v = is_null v
 is_below collation (Some e) v =
     is_null v
     || cond e.inclusive (is_lt (value_cmp collation v e.key)) (is_le (value_cmp collation v e.key))
 
--- stands past the range
+-- the value stands past the range
 abbrev pub is_above : Collation → Option End → Value → Bool
 is_above collation None v = false
 is_above collation (Some e) v =
@@ -56,14 +57,15 @@ bounds_walk s (Some l) (Some h) rows =
     cond (is_null l.key || is_null h.key) []
     (range_walk s.falling s.collation s.site (Some l) (Some h) rows)
 
--- skips the entries before the key in the column's direction, and takes entries until one is past
--- it
+-- skips the entries that stand before the key in the column's direction, and takes entries until
+-- one is past it
 abbrev pub key_stretch : SortColumn → Value → List Row → List Row
 key_stretch s key rows =
     stretch (λ row. is_lt (column_cmp s (site_value s.site row) key))
     (λ row. is_gt (column_cmp s (site_value s.site row) key)) rows
 
--- the keys that are not NULL, in the column's order, one of each class of Same
+-- the keys of an IN that are not NULL, in the column's order, one of those that are the same in it:
+-- so no row comes twice, and rows come in the index's order
 abbrev pub walked_keys : SortColumn → List Value → List Value
 walked_keys s keys =
     keep_first (eq_by_cmp (column_cmp s)) []
@@ -92,7 +94,7 @@ abbrev pub high_holds : Collation → Option End → Value → Bool
 high_holds collation None v = true
 high_holds collation (Some e) v = compares (cond e.inclusive IsAtMost IsBelow) collation v e.key
 
--- each part and bound is true of the row
+-- what a walk stands for: each part and each bound is true of the row
 abbrev pub parts_hold : List SortColumn → List Part → Option End → Option End → Row → Bool
 parts_hold [] parts low high row = true
 parts_hold (s ∷ ss) [] low high row =
