@@ -198,9 +198,9 @@ not_both : (c k m : Bool) → (c ≡ true → k ≡ true) → k ≡ m → m ≡ 
 not_both true k m h e f = absurd (let t : k ≡ true = h refl in cc)
 not_both false k m h e f = refl
 
--- the Block law: over the assignments G of all items to its left, the nested walks of a block, in
--- any order of its items, are a permutation of the extensions on which the block's conjuncts hold,
--- with such members left out as no choice to the right completes
+-- over any assignments of the items to its left, a block of loops finds, in any order of its
+-- items, the extensions on which the block's conjuncts hold, but for such as nothing to the right
+-- completes
 pub block_law : {X : Type 0} {free : ℕ → Bool} (rows : ℕ → Env X → List X) → AreFree free rows
     → (cs : List (Env X → Bool)) (block : Env X → Bool) (ts : List (Step X)) (order left : List ℕ)
     (G : List (Env X))
@@ -236,7 +236,7 @@ alike true b f g = sym (f refl)
 alike false true f g = g refl
 alike false false f g = refl
 
--- T4.3: one block of all items, from the one empty assignment
+-- one block of all items, from the one empty assignment: nothing is left out
 pub join_law : {X : Type 0} {free : ℕ → Bool} (rows : ℕ → Env X → List X) → AreFree free rows
     → (cs : List (Env X → Bool)) (ts : List (Step X)) (order : List ℕ) (env : Env X)
     → Rearranges free (step_items ts) order → Inside order env → Distinct order

@@ -3,3 +3,4 @@ pub mod Order
 pub mod Stretch
 pub mod FirstComing
 pub mod Nest
+pub mod NestLaws
