@@ -4,12 +4,12 @@ use Rattle.std.specs.declared.cmp.Ordering.TheVariants.{Less, Equal as Ties, Gre
 use Rattle.std.specs.List.{AllByRecursion}
 use Rattle.std.specs.Cmp.{IsTotalOrder}
 use Rattle.std.proofs.Common.{◌≡◌, refl, List, [], ◌∷◌, ◌++◌, ap, ◌∙◌, Bool, ◌≢◌, ℕ, Option, sym}
-use Rattle.std.proofs.Common.{subst, ◌<◌, true, map, length, slice_get, false, cond, not}
+use Rattle.std.proofs.Common.{subst, ◌<◌, true, map, length, false, cond, not}
 use Rattle.std.proofs.lemmas.Cmp.{on_total, then_total, nat_cmp_total}
 use Rattle.list_laws.specs.Order.{Ascends, sort_by}
 use Rattle.list_laws.specs.Nest.{place, nested, Distinct, Inside}
 use Rattle.list_laws.specs.Tally.{SameTally}
-use Rattle.list_laws.proofs.Lists.{all_always, all_map}
+use Rattle.list_laws.proofs.Lists.{all_always}
 use Rattle.list_laws.proofs.NestOrders.{ascends_same}
 use Rattle.list_laws.proofs.Nests.{inside_place, distinct_reorders, all_reorders}
 use Rattle.list_laws.proofs.Orders.{SameTally-sort_by, Ascends-sort_by}
@@ -17,16 +17,17 @@ use Rattle.list_laws.proofs.Tallies.{SameTally-trans}
 use Rattle.list_laws.proofs.Permutations.{IsPermutation-from_tally}
 use Rattle.sql_meaning.specs.Values.{Value}
 use Rattle.sql_meaning.specs.Rows.{Assignment, Row}
-use Rattle.sql_meaning.specs.Statements.{SortKey, Bound, table_of, no_rows, statement_rows}
+use Rattle.sql_meaning.specs.Statements.{SortKey, Bound, no_rows, statement_rows}
 use Rattle.sql_meaning.specs.Orders.{key_cmp, by_keys}
-use Rattle.sql_meaning.specs.Schemas.{Schema, IsDatabaseOf}
+use Rattle.sql_meaning.specs.Schemas.{Schema, Database}
 use Rattle.sql_meaning.specs.Plans.{Loop, loop_walk, step_of, steps_of, Plan, plan_walks, always}
 use Rattle.sql_meaning.specs.Plans.{consumed_by}
-use Rattle.sql_meaning.specs.Offers.{loop_items, IsDatabase, FitsOffers}
+use Rattle.sql_meaning.specs.Offers.{loop_items, FitsOffers}
 use Rattle.sql_meaning.specs.OrderState.{Passing, Loses, Leaves, loop_passes, after_passing, state}
 use Rattle.sql_meaning.specs.OrderState.{is_done, backward, directions_after, directions, FitsOrder}
 use Rattle.sql_meaning.specs.Evaluation.{ev}
 use Rattle.sql_meaning.specs.Asked.{Means, uncut}
+use Rattle.sql_meaning.proofs.Databases.{IsDatabase, database_for}
 use Rattle.sql_meaning.proofs.Plans.{steps_items}
 use Rattle.sql_meaning.proofs.Ordered.{IsLoopPassed, nested_ends, nested_passes, loop_passed}
 use Rattle.sql_meaning.proofs.Order.{value_cmp_total}
@@ -59,7 +60,7 @@ cons_parts : (a b : Bool) (xs ys : List Bool) → a ∷ xs ≡ b ∷ ys → (a �
 cons_parts a b xs ys e = (cc, cc)
 
 -- one loop, by what it leaves
-loop_ordered : (schema : Schema) (database : List (List Row)) (bound : Bound) (params : List Value)
+loop_ordered : (schema : Schema) (database : Database) (bound : Bound) (params : List Value)
     (consumed placed : List ℕ) (u : Loop → Assignment → Bool) (l : Loop) (ls : List Loop)
     (env : Assignment) (keys left : List SortKey)
     → AllByRecursion (λ j. j ≢ l.item) (loop_items ls)
@@ -93,7 +94,7 @@ loop_ordered schema database bound params consumed placed u l ls env keys (m ∷
     (sym (steps_items schema database bound params consumed u (l.item ∷ placed) ls)) n) i.own
     (i.strictly (λ e. cc)) later)
 
-passing_case : (schema : Schema) (database : List (List Row)) (bound : Bound) (params : List Value)
+passing_case : (schema : Schema) (database : Database) (bound : Bound) (params : List Value)
     (consumed placed : List ℕ) (u : Loop → Assignment → Bool) (l : Loop) (ls : List Loop)
     (env : Assignment) (keys : List SortKey)
     → IsDatabase schema bound database → l.item < length env
@@ -119,7 +120,7 @@ passing_case schema database bound params consumed placed u l ls env keys valid 
 
 -- T4.4: loops whose state is Done, walked in their directions, give their nested walks in order by
 -- the keys, with no sort
-pub nested_ordered : (schema : Schema) (database : List (List Row)) (bound : Bound)
+pub nested_ordered : (schema : Schema) (database : Database) (bound : Bound)
     (params : List Value) (consumed placed : List ℕ) (u : Loop → Assignment → Bool)
     (loops : List Loop) (keys : List SortKey) (env : Assignment)
     → IsDatabase schema bound database → Inside (loop_items loops) env → Distinct (loop_items loops)
@@ -144,16 +145,7 @@ by_keys_total params (k ∷ ks) =
     (on_total (λ a. ev a params k.expr) (directed_total k.falling (value_cmp_total k.collation)))
     (by_keys_total params ks)
 
-database_for : (schema : Schema) (bound : Bound) (database : List (List Row))
-    → IsDatabaseOf schema database → IsDatabase schema bound database
-database_for schema bound database valid = record {
-  rising = λ item. valid.rising (table_of (slice_get bound.items item));
-  aliased =
-      λ item. all_map _ _ _ (λ row c. c.alias)
-      (valid.conforms (table_of (slice_get bound.items item)));
-}
-
-uncut_same : (schema : Schema) (database : List (List Row)) (plan : Plan) (params : List Value)
+uncut_same : (schema : Schema) (database : Database) (plan : Plan) (params : List Value)
     (b : Bool)
     → SameTally
     (cond b (sort_by (by_keys params plan.bound.keys) (plan_walks schema database plan params))
@@ -162,7 +154,7 @@ uncut_same schema database plan params true =
     SameTally-sort_by (by_keys params plan.bound.keys) (plan_walks schema database plan params)
 uncut_same schema database plan params false = record { each = λ f. refl }
 
-uncut_ordered : (schema : Schema) (database : List (List Row)) (plan : Plan) (params : List Value)
+uncut_ordered : (schema : Schema) (database : Database) (plan : Plan) (params : List Value)
     → IsDatabase schema plan.bound database → FitsOffers schema plan → FitsOrder schema plan
     → (b : Bool) → plan.sort ≡ b → (d : Bool)
     → is_done (state schema plan.bound plan.loops plan.bound.keys) ≡ d

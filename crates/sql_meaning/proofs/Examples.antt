@@ -245,7 +245,8 @@ derived_plan = record {
         item = 0;
         path =
             IndexSeek 0
-            (OneKey (record { expr = Lit (Int (pos 2)); conversion = Some Numeric }) ∷ []) None None;
+            (OneKey (record { expr = Lit (Int (pos 2)); conversion = Some Numeric }) ∷ []) None
+            None;
         reverse =
             false;
         consumed = [];

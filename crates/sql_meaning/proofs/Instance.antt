@@ -49,7 +49,8 @@ plan_fits = record {
         (record {
           path =
               IndexSeek 0
-              (OneKey (record { expr = Lit (Int (pos 2)); conversion = Some Numeric }) ∷ []) None None;
+              (OneKey (record { expr = Lit (Int (pos 2)); conversion = Some Numeric }) ∷ []) None
+              None;
           used =
               derived_used ∷ [];
         }) two_fits refl refl,
@@ -57,7 +58,8 @@ plan_fits = record {
       seek_of_terms (schema false) two (0 ∷ []) 1 0 false
           (record {
             path =
-                IndexSeek 0 (OneKey (record { expr = Column 0 0; conversion = None }) ∷ []) None None;
+                IndexSeek 0
+                (OneKey (record { expr = Column 0 0; conversion = None }) ∷ []) None None;
             used =
                 direct_used ∷ [];
           }) two_fits refl refl,

@@ -11,7 +11,7 @@ use Rattle.list_laws.proofs.Unions.{has_used}
 use Rattle.list_laws.proofs.Nests.{block_law}
 use Rattle.sql_meaning.specs.Values.{Value}
 use Rattle.sql_meaning.specs.Rows.{Row, Assignment}
-use Rattle.sql_meaning.specs.Schemas.{RisingRows, Schema, AliasHolds}
+use Rattle.sql_meaning.specs.Schemas.{RisingRows, Schema, AliasHolds, Database}
 use Rattle.sql_meaning.specs.Paths.{Path, form_of, path_list, walk, is_union, TableScan, carried}
 use Rattle.sql_meaning.specs.Paths.{Union, Paths, same_rowid}
 use Rattle.sql_meaning.specs.Terms.{Term, terms_true, FormCarries}
@@ -24,7 +24,8 @@ use Rattle.sql_meaning.specs.UsedTerms.{BranchesCarry, UsedPlaced, IsOrTerm, Use
 use Rattle.sql_meaning.specs.Expressions.{names}
 use Rattle.sql_meaning.specs.Plans.{Loop, consumed_by, steps_of}
 use Rattle.sql_meaning.specs.Conjuncts.{first_at, level_test}
-use Rattle.sql_meaning.specs.Offers.{AreOffers, loop_items, IsDatabase}
+use Rattle.sql_meaning.specs.Offers.{AreOffers, loop_items}
+use Rattle.sql_meaning.proofs.Databases.{IsDatabase}
 use Rattle.sql_meaning.proofs.Paths.{walk_is, all_list, all_walk, walk_same, same_rowid_equiv}
 use Rattle.sql_meaning.proofs.Offers.{filter_on, plain_true, terms_placed, consumed_holds}
 use Rattle.sql_meaning.proofs.Offers.{carried_true, used_looks, or_holds, and_left, and_right}
@@ -207,7 +208,7 @@ empty_is : (ns : List ℕ) → is_empty ns ≡ true → ns ≡ []
 empty_is [] h = refl
 empty_is (n ∷ ns) h = absurd (cc)
 
-block_case : (schema : Schema) (database : List (List Row)) (bound : Bound) (params : List Value)
+block_case : (schema : Schema) (database : Database) (bound : Bound) (params : List Value)
     (consumed left : List ℕ) (loops : List Loop) (used : Loop → Used) (a : Assignment) (number : ℕ)
     (c : Conjunct)
     → loops ≢ [] → AreOffers schema bound left loops used
@@ -251,7 +252,7 @@ all_in_same (n ∷ ns) ms os f = rw (f n, all_in_same ns ms os f) refl
 -- loops have offers for the items placed before them; their nested walks over G are a permutation
 -- of H with some members left out, and where one is left out each choice to the right fails some
 -- common conjunct
-pub block_of_loops : (schema : Schema) (database : List (List Row)) (bound : Bound)
+pub block_of_loops : (schema : Schema) (database : Database) (bound : Bound)
     (params : List Value) (consumed left : List ℕ) (loops : List Loop) (used : Loop → Used)
     (order : List ℕ) (G : List Assignment)
     → IsDatabase schema bound database → OwnersAreLeft bound → loops ≢ []

@@ -2,6 +2,7 @@ pub mod Order
 pub mod Scaled
 pub mod Reading
 pub mod Conversions
+pub mod Databases
 pub mod Evaluation
 pub mod Seeks
 pub mod Paths

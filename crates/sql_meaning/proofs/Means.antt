@@ -11,16 +11,17 @@ use Rattle.list_laws.proofs.Lists.{all_map}
 use Rattle.list_laws.proofs.Nests.{join_law, distinct_reorders}
 use Rattle.sql_meaning.specs.Values.{Value}
 use Rattle.sql_meaning.specs.Rows.{Assignment, Row}
-use Rattle.sql_meaning.specs.Schemas.{Schema}
+use Rattle.sql_meaning.specs.Schemas.{Schema, Database}
 use Rattle.sql_meaning.specs.Statements.{Bound, is_left, owned_by, is_common, chosen_hold}
 use Rattle.sql_meaning.specs.Statements.{has_number, no_owner, Conjunct, all_in, is_empty}
 use Rattle.sql_meaning.specs.Statements.{numbers_from, no_rows, choices, statement_rows}
 use Rattle.sql_meaning.specs.Plans.{Loop, steps_of, consumed_by, Plan, always, plan_walks}
 use Rattle.sql_meaning.specs.UsedTerms.{Used, used_holds, Consumes, IsTerm, UsedComes, AllOf, AnyOf}
-use Rattle.sql_meaning.specs.Offers.{IsOffer, AreOffers, loop_items, FitsOffers, IsDatabase}
+use Rattle.sql_meaning.specs.Offers.{IsOffer, AreOffers, loop_items, FitsOffers}
 use Rattle.sql_meaning.specs.Conjuncts.{may_serve, level_test, common_first, first_by}
 use Rattle.sql_meaning.specs.Evaluation.{holds}
 use Rattle.sql_meaning.specs.Expressions.{names}
+use Rattle.sql_meaning.proofs.Databases.{IsDatabase}
 use Rattle.sql_meaning.proofs.Offers.{and_left, used_from, both_true, consumed_holds, and_right}
 use Rattle.sql_meaning.proofs.Plans.{chosen_weaken, test_from, uses, has_all, same_holds, or_cases}
 use Rattle.sql_meaning.proofs.Plans.{test_at, chosen_from, Ours, nested_used, steps_items}
@@ -43,7 +44,7 @@ sound_used schema bound params placed l used a o h false e =
     (chosen_weaken _ _
     (λ c t. and_left (is_common c) (not (is_left bound l.item)) t) params bound.conjuncts a h)
 
-pub sound : (schema : Schema) (database : List (List Row)) (bound : Bound) (params : List Value)
+pub sound : (schema : Schema) (database : Database) (bound : Bound) (params : List Value)
     (consumed placed : List ℕ) (loops : List Loop) (used : Loop → Used) (a : Assignment)
     → AreOffers schema bound placed loops used
     → chosen_hold is_common params bound.conjuncts a ≡ true
@@ -108,7 +109,7 @@ used_case schema bound params placed l used a number c o is common h false e u =
     (has_all (Consumes (used l)) l.consumed number o.consumes h) u in
     same_holds a params bound number c r.0 is r.1 r.3
 
-pub settled_used : (schema : Schema) (database : List (List Row)) (bound : Bound)
+pub settled_used : (schema : Schema) (database : Database) (bound : Bound)
     (params : List Value) (consumed placed : List ℕ) (loops : List Loop) (used : Loop → Used)
     (a : Assignment) (number : ℕ) (c : Conjunct)
     → AreOffers schema bound placed loops used
@@ -190,7 +191,7 @@ named_case ns item placed e h true f = refl
 named_case ns item placed e h false f =
     absurd (let yes : all_in ns placed ≡ true = unnamed ns item placed f e in cc)
 
-pub settled_test : (schema : Schema) (database : List (List Row)) (bound : Bound)
+pub settled_test : (schema : Schema) (database : Database) (bound : Bound)
     (params : List Value) (consumed placed : List ℕ) (loops : List Loop)
     (u : Loop → Assignment → Bool) (a : Assignment) (number : ℕ) (c : Conjunct)
     → kept (steps_of schema database bound params consumed u placed loops) a ≡ true
@@ -235,7 +236,7 @@ covered_start (n ∷ ns) rest h =
     (and_left _ _ h, covered_start ns rest (and_right (has_number n rest) _ h))
 
 -- each common conjunct holds where the used terms and the tests of all loops do
-settles_one : (schema : Schema) (database : List (List Row)) (bound : Bound) (params : List Value)
+settles_one : (schema : Schema) (database : Database) (bound : Bound) (params : List Value)
     (loops : List Loop) (used : Loop → Used) (a : Assignment) (number : ℕ) (c : Conjunct)
     → loops ≢ [] → AreOffers schema bound [] loops used
     → all_in (names c.expr) (loop_items loops) ≡ true
@@ -257,7 +258,7 @@ settles_one schema database bound params (l ∷ ls) used a number c some o named
     (first_common [] l.item (names c.expr) c.owner common (empty_first l.item (names c.expr) g))
     (ap (λ m. has_number m (consumed_by (l ∷ ls))) (zero-add number) ∙ f)
 
-settles : (schema : Schema) (database : List (List Row)) (plan : Plan) (params : List Value)
+settles : (schema : Schema) (database : Database) (plan : Plan) (params : List Value)
     (fits : FitsOffers schema plan) (a : Assignment)
     → kept
     (steps_of schema database plan.bound params (consumed_by plan.loops)
@@ -380,7 +381,7 @@ numbers_inside bound =
     length-replicate (length bound.items) None in subst (λ (n : ℕ). j < n) (sym e) h)
     (numbers_below 0 (length bound.items) (length bound.items) (omega arith))
 
-pub free_choices : (database : List (List Row)) (bound : Bound) (params : List Value) (i : ℕ)
+pub free_choices : (database : Database) (bound : Bound) (params : List Value) (i : ℕ)
     (b : Bool)
     → not b ≡ true → (xs : List (Option Row)) (ys zs : List (Option Row))
     → cond b ys xs ≡ cond b zs xs
@@ -393,7 +394,7 @@ cond_same false = refl
 
 -- T4.3: the nested walks of a plan whose loops are offers are a permutation of the statement's rows
 pub plan_rows : (schema : Schema) (plan : Plan) → FitsOffers schema plan
-    → (database : List (List Row)) → IsDatabase schema plan.bound database → (params : List Value)
+    → (database : Database) → IsDatabase schema plan.bound database → (params : List Value)
     → SameTally (plan_walks schema database plan params) (statement_rows plan.bound database params)
 plan_rows schema plan fits database valid params =
     let steps =

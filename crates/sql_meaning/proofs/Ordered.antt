@@ -28,9 +28,9 @@ use Rattle.sql_meaning.specs.OrderState.{test_column, on_item, Position, key_mat
 use Rattle.sql_meaning.specs.OrderState.{needs_backward, positions, path_held, key_held, is_single}
 use Rattle.sql_meaning.specs.OrderState.{drop_held, lost_by, backward, Loses, Leaves, pass}
 use Rattle.sql_meaning.specs.OrderState.{loop_passes}
-use Rattle.sql_meaning.specs.Schemas.{Schema, AliasHolds, RisingRows}
+use Rattle.sql_meaning.specs.Schemas.{Schema, AliasHolds, RisingRows, Database}
 use Rattle.sql_meaning.specs.Conjuncts.{level_test}
-use Rattle.sql_meaning.specs.Offers.{IsDatabase}
+use Rattle.sql_meaning.proofs.Databases.{IsDatabase}
 use Rattle.sql_meaning.proofs.Terms.{bare_is}
 use Rattle.sql_meaning.proofs.Order.{value_cmp_total}
 use Rattle.sql_meaning.proofs.Rises.{directed_tie, pos_cmp, collation_is, site_is, path_tied}
@@ -446,7 +446,7 @@ rows_case schema params alias item path back rows env keys left out rising alias
     (subst (IsDirection out) (sym same) (own_direction out)))
 
 -- a filter, and the missing row of a LEFT loop, keep the order
-pub loop_passed : (schema : Schema) (database : List (List Row)) (bound : Bound)
+pub loop_passed : (schema : Schema) (database : Database) (bound : Bound)
     (params : List Value) (consumed placed : List ℕ) (l : Loop) (env : Assignment)
     (keys left : List SortKey) (out : Option Bool)
     → IsDatabase schema bound database → l.item < length env → l.reverse ≡ backward out

@@ -44,7 +44,8 @@ pub rising_ascends : (rows : List Row) → RisingRows rows → Ascends (entry_cm
 rising_ascends [] h = tt
 rising_ascends (row ∷ rows) h = (
   all_map _ _ rows
-      (λ later e. ap is_le (rowid_less row.rowid later.rowid (int_cmp row.rowid later.rowid) e)) h.0,
+      (λ later e. ap is_le (rowid_less row.rowid later.rowid (int_cmp row.rowid later.rowid) e))
+      h.0,
   rising_ascends rows h.1,
 )
 
@@ -99,7 +100,8 @@ plain_same : (schema : Schema) (params : List Value) (path : Path) (rows : List 
 plain_same schema params path rows env h e =
     record {
       each = λ f. ap (tally f) (walk_is schema params path rows env h e)
-          ∙ (SameTally-filter (carried schema params path env) _ rows (list_same schema path rows)).each
+          ∙ (SameTally-filter (carried schema params path env) _ rows
+          (list_same schema path rows)).each
           f;
     }
 

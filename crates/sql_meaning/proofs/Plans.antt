@@ -11,17 +11,18 @@ use Rattle.list_laws.proofs.Tallies.{SameTally-refl, SameTally-filter}
 use Rattle.sql_meaning.specs.Values.{Value}
 use Rattle.sql_meaning.specs.Truth.{truth3}
 use Rattle.sql_meaning.specs.Rows.{Row, Assignment}
-use Rattle.sql_meaning.specs.Schemas.{Schema}
+use Rattle.sql_meaning.specs.Schemas.{Schema, Database}
 use Rattle.sql_meaning.specs.Statements.{Bound, is_common, is_empty, has_number, Conjunct, no_owner}
 use Rattle.sql_meaning.specs.Statements.{chosen_hold, is_left, owned_by, OwnersAreLeft, or_missing}
 use Rattle.sql_meaning.specs.Statements.{item_rows, item_alias, choices}
 use Rattle.sql_meaning.specs.Plans.{Loop, loop_walk, steps_of, directed_walk, missing_if}
 use Rattle.sql_meaning.specs.Conjuncts.{level_test, common_first, first_at, first_by}
-use Rattle.sql_meaning.specs.Offers.{loop_items, IsOffer, IsDatabase, AreOffers}
+use Rattle.sql_meaning.specs.Offers.{loop_items, IsOffer, AreOffers}
 use Rattle.sql_meaning.specs.Expressions.{names}
 use Rattle.sql_meaning.specs.Evaluation.{is_true, holds}
 use Rattle.sql_meaning.specs.UsedTerms.{Used, used_holds, Consumes, UsedPlaced}
 use Rattle.sql_meaning.specs.Paths.{walk}
+use Rattle.sql_meaning.proofs.Databases.{IsDatabase}
 use Rattle.sql_meaning.proofs.Offers.{and_left, and_right, agree_in, all_in_all, both_true, unless}
 use Rattle.sql_meaning.proofs.Offers.{rest_of, consumed_holds, used_from, used_looks, walk_used}
 use Rattle.sql_meaning.proofs.Evaluation.{ev_same}
@@ -29,7 +30,7 @@ use Rattle.sql_meaning.proofs.Terms.{some_is}
 use Rattle.sql_meaning.proofs.Links.{all_at}
 
 -- `used` plays no part in the nested walks
-pub nested_used : (schema : Schema) (database : List (List Row)) (bound : Bound)
+pub nested_used : (schema : Schema) (database : Database) (bound : Bound)
     (params : List Value) (consumed : List ℕ) (u v : Loop → Assignment → Bool) (placed : List ℕ)
     (loops : List Loop) (env : Assignment)
     → nested (steps_of schema database bound params consumed u placed loops) env
@@ -44,7 +45,7 @@ nested_used schema database bound params consumed u v placed (l ∷ ls) env =
     (nested_used schema database bound params consumed u v (l.item ∷ placed) ls
     (place env l.item x)))
 
-pub steps_items : (schema : Schema) (database : List (List Row)) (bound : Bound)
+pub steps_items : (schema : Schema) (database : Database) (bound : Bound)
     (params : List Value) (consumed : List ℕ) (u : Loop → Assignment → Bool) (placed : List ℕ)
     (loops : List Loop)
     → step_items (steps_of schema database bound params consumed u placed loops) ≡ loop_items loops
@@ -332,7 +333,7 @@ uses_looks bound params used l placed p false e env a h =
     used_looks params l.item placed (used l) p env a h
 
 -- the walk of a loop, with what a LEFT loop does of it
-loop_same : (schema : Schema) (database : List (List Row)) (bound : Bound) (params : List Value)
+loop_same : (schema : Schema) (database : Database) (bound : Bound) (params : List Value)
     (consumed placed : List ℕ) (l : Loop) (used : Loop → Used) (env : Assignment)
     → IsDatabase schema bound database → OwnersAreLeft bound
     → IsOffer schema bound placed l (used l) → Ours bound consumed l → l.item < length env
@@ -379,7 +380,7 @@ loop_same schema database bound params consumed placed l used env valid owners o
 }
 
 -- the loops of a plan are what the laws of nested walks ask
-pub are_steps : (schema : Schema) (database : List (List Row)) (bound : Bound) (params : List Value)
+pub are_steps : (schema : Schema) (database : Database) (bound : Bound) (params : List Value)
     (consumed placed : List ℕ) (loops : List Loop) (used : Loop → Used)
     → IsDatabase schema bound database → OwnersAreLeft bound
     → AreOffers schema bound placed loops used → AllByRecursion (Ours bound consumed) loops

@@ -1,12 +1,19 @@
 -- Which conjuncts may serve an item, and at which loop a conjunct is tested.
 use Rattle.std.specs.Prelude.{ℕ, Bool, cond, not, ◌&&◌, ◌||◌, List, ◌∷◌, ◌==◌, Option, Some, None}
-use Rattle.std.specs.Prelude.{◌+◌, true, []}
+use Rattle.std.specs.Prelude.{◌+◌, true, [], map}
+use Rattle.std.specs.List.{flat_map}
 use Rattle.sql_meaning.specs.Statements.{Conjunct, Bound, is_left, owned_by, is_common, has_number}
 use Rattle.sql_meaning.specs.Statements.{all_in, is_empty}
-use Rattle.sql_meaning.specs.Expressions.{names}
+use Rattle.sql_meaning.specs.Expressions.{names, flat}
 use Rattle.sql_meaning.specs.Values.{Value}
 use Rattle.sql_meaning.specs.Rows.{Assignment}
 use Rattle.sql_meaning.specs.Evaluation.{holds}
+
+-- the conjuncts of a statement, from its conditions: the ON conditions in FROM order, then WHERE,
+-- each with its owner; a conjunct has the owner of its condition
+abbrev pub conjuncts_of : List Conjunct → List Conjunct
+conjuncts_of conditions =
+    flat_map (λ c. map (λ e. record { expr = e; owner = c.owner }) (flat c.expr)) conditions
 
 -- a LEFT item is served by its own conjuncts alone, since a common one must not turn its rows into
 -- the missing row; every other item by common conjuncts alone

@@ -2,24 +2,24 @@
 use Rattle.std.specs.Prelude.{◌≡◌, ℕ, false, List, [], ◌∷◌, ◌≢◌, true, not, length}
 use Rattle.std.specs.List.{AllByRecursion}
 use Rattle.list_laws.specs.Nest.{Rearranges}
-use Rattle.sql_meaning.specs.Schemas.{Schema, AliasHolds, RisingRows}
+use Rattle.sql_meaning.specs.Schemas.{Schema}
 use Rattle.sql_meaning.specs.Statements.{Bound, has_number, item_alias, FitsStatement, all_in}
-use Rattle.sql_meaning.specs.Statements.{is_left, numbers_from, OwnersAreLeft, item_rows}
+use Rattle.sql_meaning.specs.Statements.{is_left, numbers_from, OwnersAreLeft}
 use Rattle.sql_meaning.specs.Plans.{Loop, Plan}
 use Rattle.sql_meaning.specs.UsedTerms.{Used, PathCarries, UsedPlaced, UsedComes, Consumes}
 use Rattle.sql_meaning.specs.Expressions.{names}
-use Rattle.sql_meaning.specs.Rows.{Row}
 
 -- an offer for an item that isn't placed yet: its path carries terms of the item whose keys are
 -- known, and consumes conjuncts of direct ones alone
-pub record IsOffer (schema : Schema) (bound : Bound) (placed : List ℕ) (loop : Loop) (used : Used) :
-    Type 0 where
-  pub fits : FitsStatement schema bound
-  pub unplaced : has_number loop.item placed ≡ false
-  pub carries : PathCarries schema (item_alias schema bound loop.item) loop.path used
-  pub keys : UsedPlaced placed used
-  pub comes : UsedComes schema bound loop.item used
-  pub consumes : AllByRecursion (Consumes used) loop.consumed
+pub record IsOffer (schema : Schema) (bound : Bound) (placed : List ℕ) (loop : Loop)
+    (used : Used) : Type 0
+  where
+    pub fits : FitsStatement schema bound
+    pub unplaced : has_number loop.item placed ≡ false
+    pub carries : PathCarries schema (item_alias schema bound loop.item) loop.path used
+    pub keys : UsedPlaced placed used
+    pub comes : UsedComes schema bound loop.item used
+    pub consumes : AllByRecursion (Consumes used) loop.consumed
 
 -- an offer for each loop, after the items placed before it
 abbrev pub AreOffers : Schema → Bound → List ℕ → List Loop → (Loop → Used) → Type 0
@@ -42,9 +42,3 @@ pub record FitsOffers (schema : Schema) (plan : Plan) : Type 0 where
   pub named : AllByRecursion
       (λ c. all_in (names c.expr) (loop_items plan.loops) ≡ true) plan.bound.conjuncts
   pub owners : OwnersAreLeft plan.bound
-
--- what the laws need of a database: rows stand by rowid, and the alias holds the rowid
-pub record IsDatabase (schema : Schema) (bound : Bound) (database : List (List Row)) : Type 0 where
-  pub rising : (item : ℕ) → RisingRows (item_rows database bound item)
-  pub aliased : (item : ℕ)
-      → AllByRecursion (AliasHolds (item_alias schema bound item)) (item_rows database bound item)

@@ -7,7 +7,7 @@ use Rattle.sql_meaning.specs.Statements.{Bound, or_missing, is_left, owned_by, i
 use Rattle.sql_meaning.specs.Statements.{no_rows}
 use Rattle.sql_meaning.specs.Rows.{Row, Assignment}
 use Rattle.sql_meaning.specs.Values.{Value}
-use Rattle.sql_meaning.specs.Schemas.{Schema}
+use Rattle.sql_meaning.specs.Schemas.{Schema, Database}
 use Rattle.sql_meaning.specs.Conjuncts.{level_test}
 
 -- a loop of a plan: its item, its path, whether it walks backward, and the numbers of the conjuncts
@@ -34,7 +34,7 @@ missing_if false xs = xs
 
 -- the rows of a loop: those of its walk on which the conjuncts that this item owns hold; at a LEFT
 -- item, where none is left, the missing row stands once
-abbrev pub loop_walk : Schema → List (List Row) → Bound → List Value → List ℕ → List ℕ → Loop
+abbrev pub loop_walk : Schema → Database → Bound → List Value → List ℕ → List ℕ → Loop
     → Assignment → List (Option Row)
 loop_walk schema database bound params consumed placed loop env =
     missing_if (is_left bound loop.item)
@@ -47,7 +47,7 @@ loop_walk schema database bound params consumed placed loop env =
     (walk schema params loop.path (item_rows database bound loop.item) env))))
 
 -- then the common conjuncts of this loop are tested; `used` plays no part in it
-abbrev pub step_of : Schema → List (List Row) → Bound → List Value → List ℕ → List ℕ → Loop
+abbrev pub step_of : Schema → Database → Bound → List Value → List ℕ → List ℕ → Loop
     → (Assignment → Bool) → Step (Option Row)
 step_of schema database bound params consumed placed loop used = record {
   item = loop.item;
@@ -64,7 +64,7 @@ abbrev pub consumed_by : List Loop → List ℕ
 consumed_by loops = flat_map (λ l. l.consumed) loops
 
 -- a step for each loop, after the items placed before it
-abbrev pub steps_of : Schema → List (List Row) → Bound → List Value → List ℕ
+abbrev pub steps_of : Schema → Database → Bound → List Value → List ℕ
     → (Loop → Assignment → Bool) → List ℕ → List Loop → List (Step (Option Row))
 steps_of schema database bound params consumed used placed [] = []
 steps_of schema database bound params consumed used placed (l ∷ ls) =
@@ -72,7 +72,7 @@ steps_of schema database bound params consumed used placed (l ∷ ls) =
     ∷ steps_of schema database bound params consumed used (l.item ∷ placed) ls
 
 -- the nested loops of the plan, on a database
-abbrev pub plan_walks : Schema → List (List Row) → Plan → List Value → List Assignment
+abbrev pub plan_walks : Schema → Database → Plan → List Value → List Assignment
 plan_walks schema database plan params =
     nested
     (steps_of schema database plan.bound params (consumed_by plan.loops)

@@ -48,6 +48,10 @@ abbrev pub columns_of : Option Table → List TableColumn
 columns_of None = []
 columns_of (Some t) = t.columns
 
+-- the rows of each table
+abbrev pub Database : Type 0
+Database = List (List Row)
+
 -- the rows of a table, by rowid; no two have the same
 abbrev pub RisingRows : List Row → Type 0
 RisingRows [] = Unit {0}
@@ -70,7 +74,7 @@ pub record ConformsTo (table : Option Table) (row : Row) : Type 0 where
   pub alias : AliasHolds (alias_of table) row
 
 -- a database of the schema; UNIQUE and NOT NULL are not asked, so the laws hold without them
-pub record IsDatabaseOf (schema : Schema) (database : List (List Row)) : Type 0 where
+pub record IsDatabaseOf (schema : Schema) (database : Database) : Type 0 where
   pub rising : (table : ℕ) → RisingRows (slice_index_or database table [])
   pub conforms : (table : ℕ)
       → AllByRecursion (ConformsTo (slice_get schema.tables table))

@@ -9,7 +9,7 @@ use Rattle.sql_meaning.specs.Values.{Collation, Value, Null, Int, Dec, Text, Blo
 use Rattle.sql_meaning.specs.Items.{Item, FitsExpr}
 use Rattle.sql_meaning.specs.Rows.{Assignment, Row, AtRowid, cell}
 use Rattle.sql_meaning.specs.Evaluation.{holds, param_value, ev}
-use Rattle.sql_meaning.specs.Schemas.{Schema, alias_of}
+use Rattle.sql_meaning.specs.Schemas.{Schema, alias_of, Database}
 
 -- a conjunct of the ON condition of a LEFT JOIN is owned by that item; every other one is common
 pub record Conjunct : Type 0 where
@@ -82,12 +82,12 @@ abbrev pub table_of : Option Item → ℕ
 table_of None = 0
 table_of (Some item) = item.table
 
-abbrev pub item_rows : List (List Row) → Bound → ℕ → List Row
+abbrev pub item_rows : Database → Bound → ℕ → List Row
 item_rows database bound item = slice_index_or database (table_of (slice_get bound.items item)) []
 
 -- the rows of an item for given rows of the items to its left: each row of its table; of a LEFT
 -- item each row on which its own conjuncts hold, and the missing row where there is no such row
-abbrev pub choices : List (List Row) → Bound → List Value → ℕ → Assignment → List (Option Row)
+abbrev pub choices : Database → Bound → List Value → ℕ → Assignment → List (Option Row)
 choices database bound params item env =
     cond (is_left bound item)
     (or_missing
@@ -103,7 +103,7 @@ abbrev pub no_rows : Bound → Assignment
 no_rows bound = replicate (length bound.items) None
 
 -- one row of each item, in every way, kept where each common conjunct holds (lang_select)
-abbrev pub statement_rows : Bound → List (List Row) → List Value → List Assignment
+abbrev pub statement_rows : Bound → Database → List Value → List Assignment
 statement_rows bound database params =
     filter (chosen_hold is_common params bound.conjuncts)
     (product (choices database bound params) (numbers_from 0 (length bound.items)) (no_rows bound))
