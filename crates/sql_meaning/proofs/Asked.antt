@@ -3,8 +3,7 @@ use Rattle.std.specs.declared.cmp.Ordering.{Ordering}
 use Rattle.std.specs.declared.cmp.Ordering.TheVariants.{Less, Equal as Ties, Greater}
 use Rattle.std.specs.List.{AllByRecursion}
 use Rattle.std.specs.Cmp.{IsTotalOrder}
-use Rattle.std.proofs.Common.{◌≡◌, refl, List, [], ◌∷◌, ◌++◌, ap, ◌∙◌, Bool, ◌≢◌, ℕ, Option, sym}
-use Rattle.std.proofs.Common.{subst, ◌<◌, true, map, length, false, cond, not}
+use Rattle.std.proofs.Common.{◌≡◌, refl, List, [], ◌∷◌, ◌++◌, ap, ◌∙◌, Bool, ◌≢◌, ℕ, Option, sym, subst, ◌<◌, true, map, length, false, cond, not}
 use Rattle.std.proofs.lemmas.Cmp.{on_total, then_total, nat_cmp_total}
 use Rattle.list_laws.specs.Order.{Ascends, sort_by}
 use Rattle.list_laws.specs.Nest.{place, nested, Distinct, Inside}
@@ -20,12 +19,11 @@ use Rattle.sql_meaning.specs.Rows.{Assignment, Row}
 use Rattle.sql_meaning.specs.Statements.{SortKey, Bound, no_rows, statement_rows}
 use Rattle.sql_meaning.specs.Orders.{key_cmp, by_keys}
 use Rattle.sql_meaning.specs.Schemas.{Schema, Database}
-use Rattle.sql_meaning.specs.Plans.{Loop, loop_walk, step_of, steps_of, Plan, plan_walks, always}
-use Rattle.sql_meaning.specs.Plans.{consumed_by}
+use Rattle.sql_meaning.specs.Plans.{Loop, loop_walk, step_of, steps_of, Plan, plan_walks, always, consumed_by}
 use Rattle.sql_meaning.specs.Offers.{loop_items, FitsOffers}
-use Rattle.sql_meaning.specs.OrderState.{Passing, Loses, Leaves, loop_passes, after_passing, state}
-use Rattle.sql_meaning.specs.OrderState.{is_done, backward, directions_after, directions, FitsOrder}
+use Rattle.sql_meaning.specs.OrderState.{Passing, Loses, Leaves, loop_passes, after_passing, state, is_done, backward, directions_after, directions, FitsOrder}
 use Rattle.sql_meaning.specs.Evaluation.{ev}
+use Rattle.sql_meaning.specs.PlanLaws.{LoopsGiveTheRows, PlansGiveTheOrder, OfferedPlansMean}
 use Rattle.sql_meaning.specs.Asked.{Means, uncut}
 use Rattle.sql_meaning.proofs.Databases.{IsDatabase, database_for}
 use Rattle.sql_meaning.proofs.Plans.{steps_items}
@@ -118,7 +116,7 @@ passing_case schema database bound params consumed placed u l ls env keys valid 
     (loop_passed schema database bound params consumed placed l env keys left out valid lt parts.0
     e) (ih left h parts.1)
 
--- T4.4: loops whose state is Done, walked in their directions, give their nested walks in order by
+-- loops whose state is done, each walked in its direction, find their assignments in the order of
 -- the keys, with no sort
 pub nested_ordered : (schema : Schema) (database : Database) (bound : Bound)
     (params : List Value) (consumed placed : List ℕ) (u : Loop → Assignment → Bool)
@@ -172,19 +170,25 @@ uncut_ordered schema database plan params valid fits order false e true g =
 uncut_ordered schema database plan params valid fits order false e false g =
     absurd (let no : false ≡ true = sym e ∙ order.sorts ∙ ap not g in cc)
 
--- T4.5: a plan whose loops are offers, with D16's flags, means its statement
-pub means_from_offers : (schema : Schema) (plan : Plan) → FitsOffers schema plan
-    → FitsOrder schema plan → Means schema plan
+pub loops_give_the_rows : LoopsGiveTheRows
+loops_give_the_rows = λ schema plan fits database valid params.
+    IsPermutation-from_tally rows_eq rows_true rows_itself (plan_walks schema database plan params)
+    (statement_rows plan.bound database params)
+    (plan_rows schema plan fits database (database_for schema plan.bound database valid) params)
+
+pub plans_give_the_order : PlansGiveTheOrder
+plans_give_the_order = λ schema plan fits order database valid params.
+    uncut_ordered schema database plan params (database_for schema plan.bound database valid) fits
+    order plan.sort refl (is_done (state schema plan.bound plan.loops plan.bound.keys)) refl
+
+-- a sort only moves rows, and loops that give the order need none
+pub offered_plans_mean : OfferedPlansMean
 unfolding Means
-means_from_offers schema plan fits order = λ database valid params values.
-    let here = database_for schema plan.bound database valid in
-    record {
-      permutes =
-          IsPermutation-from_tally rows_eq rows_true rows_itself (uncut schema database plan params)
-          (statement_rows plan.bound database params)
-          (SameTally-trans _ _ _ (uncut_same schema database plan params plan.sort)
-          (plan_rows schema plan fits database here params));
-      ordered =
-          uncut_ordered schema database plan params here fits order plan.sort refl
-          (is_done (state schema plan.bound plan.loops plan.bound.keys)) refl;
-    }
+offered_plans_mean = λ schema plan fits order database valid params values. record {
+  permutes =
+      IsPermutation-from_tally rows_eq rows_true rows_itself (uncut schema database plan params)
+      (statement_rows plan.bound database params)
+      (SameTally-trans _ _ _ (uncut_same schema database plan params plan.sort)
+      (plan_rows schema plan fits database (database_for schema plan.bound database valid) params));
+  ordered = plans_give_the_order schema plan fits order database valid params;
+}

@@ -1,6 +1,5 @@
 use Rattle.std.specs.Cmp.{signed_Decides}
-use Rattle.std.proofs.Common.{Bool, true, false, ◌&&◌, List, [], ◌∷◌, Option, Some, None, ◌≡◌, refl}
-use Rattle.std.proofs.Common.{ap₂, ap, ℤ, int_eq, ℕ, ◌==◌}
+use Rattle.std.proofs.Common.{Bool, true, false, ◌&&◌, List, [], ◌∷◌, Option, Some, None, ◌≡◌, refl, ap₂, ap, ℤ, int_eq, ℕ, ◌==◌}
 use Rattle.std.proofs.lemmas.Bool.{eq-eqb, eqb-true}
 use Rattle.sql_meaning.specs.Values.{Value, Null, Int, Dec, Text, Blob}
 use Rattle.sql_meaning.specs.Rows.{Row, Assignment}
@@ -99,13 +98,13 @@ value_itself (Blob n) = list_itself _ nat_itself n
 abbrev pub row_eq : Row → Row → Bool
 row_eq x y = int_eq x.rowid y.rowid && list_eq value_eq x.values y.values
 
-row_true : (x y : Row) → row_eq x y ≡ true → x ≡ y
+pub row_true : (x y : Row) → row_eq x y ≡ true → x ≡ y
 row_true x y h =
     ap₂ (λ r vs. record { rowid = r; values = vs })
     (int_eq_true x.rowid y.rowid (and_left _ (list_eq value_eq x.values y.values) h))
     (list_true value_eq value_true x.values y.values (and_right (int_eq x.rowid y.rowid) _ h))
 
-row_itself : (x : Row) → row_eq x x ≡ true
+pub row_itself : (x : Row) → row_eq x x ≡ true
 row_itself x = both_true _ _ (int_eq_itself x.rowid) (list_itself value_eq value_itself x.values)
 
 abbrev pub rows_eq : Assignment → Assignment → Bool

@@ -1,16 +1,12 @@
 use Rattle.std.specs.declared.cmp.Ordering.TheVariants.{Less, Equal as Ties}
-use Rattle.std.proofs.Common.{◌≡◌, pos, [], ◌∷◌, refl, negsuc, decimal, ◌++◌, Some, true, false}
-use Rattle.std.proofs.Common.{None, ℤ, List, Bool, Option, map}
-use Rattle.sql_meaning.specs.Values.{Int, Text, Integer, Dec, Real, TextAffinity, Numeric, Binary}
-use Rattle.sql_meaning.specs.Values.{value_cmp, Rtrim, Nocase, Blob, BlobAffinity, Value, Null}
+use Rattle.std.proofs.Common.{◌≡◌, pos, [], ◌∷◌, refl, negsuc, decimal, ◌++◌, Some, true, false, None, ℤ, List, Bool, Option, map}
+use Rattle.sql_meaning.specs.Values.{Int, Text, Integer, Dec, Real, TextAffinity, Numeric, Binary, value_cmp, Rtrim, Nocase, Blob, BlobAffinity, Value, Null}
 use Rattle.sql_meaning.specs.Conversions.{converted, side_conversion}
 use Rattle.sql_meaning.specs.Truth.{truth3}
 use Rattle.sql_meaning.specs.Rows.{Row, AtColumn}
 use Rattle.sql_meaning.specs.Schemas.{Schema}
-use Rattle.sql_meaning.specs.Expressions.{Lit, Column, IsNull, Rowid, IsEqual, Cmp, IsAtMost, Any}
-use Rattle.sql_meaning.specs.Expressions.{Nil, More}
-use Rattle.sql_meaning.specs.Paths.{KeyExpr, Edge, IndexScan, walk, IndexSeek, ManyKeys, NullKey}
-use Rattle.sql_meaning.specs.Paths.{RowidRange, OneKey, Union, Nowhere, Then, TableScan}
+use Rattle.sql_meaning.specs.Expressions.{Lit, Column, IsNull, Rowid, IsEqual, Cmp, IsAtMost, Any, Nil, More}
+use Rattle.sql_meaning.specs.Paths.{KeyExpr, Edge, IndexScan, walk, IndexSeek, ManyKeys, NullKey, RowidRange, OneKey, Union, Nowhere, Then, TableScan}
 use Rattle.sql_meaning.specs.Statements.{Count, SortKey, Bound, statement_rows}
 use Rattle.sql_meaning.specs.Plans.{Loop, Plan, plan_walks}
 use Rattle.sql_meaning.specs.OrderState.{state, Done, directions, Lost}

@@ -13,7 +13,7 @@ use Rattle.sql_meaning.specs.OrderState.{FitsOrder}
 use Rattle.sql_meaning.specs.Asked.{Means}
 use Rattle.sql_meaning.proofs.Examples.{schema, two, derived_plan}
 use Rattle.sql_meaning.proofs.TermLists.{seek_of_terms}
-use Rattle.sql_meaning.proofs.Asked.{means_from_offers}
+use Rattle.sql_meaning.proofs.Asked.{offered_plans_mean}
 
 -- the premises can be met: the plan of the examples that seeks t.a by the derived key, then u.a by
 -- the direct conjunct
@@ -76,4 +76,4 @@ order_fits = record { sorts = refl; reverses = λ e. refl; forward = λ e. refl 
 
 -- so on every database this plan gives its statement's rows
 plan_means : Means (schema false) derived_plan
-plan_means = means_from_offers (schema false) derived_plan plan_fits order_fits
+plan_means = offered_plans_mean (schema false) derived_plan plan_fits order_fits

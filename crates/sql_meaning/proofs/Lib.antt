@@ -16,7 +16,11 @@ pub mod Rises
 pub mod Ordered
 pub mod Equals
 pub mod Asked
-pub mod Lemmas
+pub mod ServedNames
+pub mod ConditionLaws
+pub mod TermLaws
+pub mod PathLaws
+pub mod Blocks
 pub mod Examples
 pub mod Choices
 pub mod Serving

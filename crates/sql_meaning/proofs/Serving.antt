@@ -1,21 +1,12 @@
 use Rattle.std.specs.List.{AllByRecursion}
-use Rattle.std.proofs.Common.{◌≡◌, true, Option, Some, None, refl, Bool, false, not, ◌≢◌, ℕ, ◌||◌}
-use Rattle.std.proofs.Common.{◌==◌, List, ◌∷◌, sym, [], cond, ◌&&◌, ap, ◌∙◌, ◌⊎◌, inl, inr, subst}
-use Rattle.std.proofs.Common.{slice_get, suc, ◌+◌, arith}
+use Rattle.std.proofs.Common.{◌≡◌, true, Option, Some, None, refl, Bool, false, not, ◌≢◌, ℕ, ◌||◌, ◌==◌, List, ◌∷◌, sym, [], cond, ◌&&◌, ap, ◌∙◌, ◌⊎◌, inl, inr, subst, slice_get, suc, ◌+◌, arith}
 use Rattle.std.proofs.lemmas.Bool.{eq-eqb, eqb-true}
 use Rattle.list_laws.proofs.Lists.{all_append}
 use Rattle.sql_meaning.specs.Values.{Affinity, Collation}
-use Rattle.sql_meaning.specs.Serving.{no_conversion, Served, side_served, served_or}
-use Rattle.sql_meaning.specs.Serving.{comparison_served, equal_key, key_under, keys_or, keys_under}
-use Rattle.sql_meaning.specs.Serving.{within, or_served, null_served, first_served, serving}
-use Rattle.sql_meaning.specs.Serving.{numbered_term, if_allowed, direct_terms}
+use Rattle.sql_meaning.specs.Serving.{no_conversion, Served, side_served, served_or, comparison_served, equal_key, key_under, keys_or, keys_under, within, or_served, null_served, first_served, serving, numbered_term, if_allowed, direct_terms}
 use Rattle.sql_meaning.specs.Statements.{has_number, Conjunct, Bound}
-use Rattle.sql_meaning.specs.Expressions.{ColumnRef, Op, BExpr, names, bare_column, Cmp, Lit, Param}
-use Rattle.sql_meaning.specs.Expressions.{Column, Rowid, Plus, Collate, OneOf, IsNull, Not, All}
-use Rattle.sql_meaning.specs.Expressions.{Any, BExprs, Nil, More, all_names}
-use Rattle.sql_meaning.specs.Terms.{TermKind, kind_of, SideServes, flipped, ComparisonServes}
-use Rattle.sql_meaning.specs.Terms.{Equals, Within, IsNothing, Low, High, AreEqualities, OrServes}
-use Rattle.sql_meaning.specs.Terms.{entry_keys, Serves}
+use Rattle.sql_meaning.specs.Expressions.{ColumnRef, Op, BExpr, names, bare_column, Cmp, Lit, Param, Column, Rowid, Plus, Collate, OneOf, IsNull, Not, All, Any, BExprs, Nil, More, all_names}
+use Rattle.sql_meaning.specs.Terms.{TermKind, kind_of, SideServes, flipped, ComparisonServes, Equals, Within, IsNothing, Low, High, AreEqualities, OrServes, entry_keys, Serves}
 use Rattle.sql_meaning.specs.Rows.{Site}
 use Rattle.sql_meaning.specs.Paths.{KeyExpr}
 use Rattle.sql_meaning.specs.Orders.{same_collation, same_site}
@@ -209,22 +200,38 @@ equalities_serve item site collation (More e es) keys h =
       equalities_serve item site collation es r.1 r.3,
     )
 
+keys_some : (key : Option KeyExpr) (rest : Option (List KeyExpr)) (keys : List KeyExpr)
+    → keys_or key rest ≡ Some keys → keys ≢ []
+keys_some None rest keys h = absurd (cc)
+keys_some (Some key) None keys h = absurd (cc)
+keys_some (Some key) (Some others) keys h =
+    λ e. let no : (key ∷ others) ≡ [] = some_is _ keys h ∙ e in cc
+
 within_case : (item : ℕ) (es : BExprs) (site : Site) (collation : Collation)
     (o : Option (List KeyExpr)) (s : Served)
+    → ((keys : List KeyExpr) → o ≡ Some keys → keys ≢ [])
     → keys_under item site collation es ≡ o → within site collation o ≡ Some s
     → OrServes item s.site s.collation s.kind es
-within_case item es site collation None s e h = absurd (cc)
-within_case item es site collation (Some keys) s e h =
+within_case item es site collation None s f e h = absurd (cc)
+within_case item es site collation (Some keys) s f e h =
     subst (λ (z : Served). OrServes item z.site z.collation z.kind es)
     (some_is (record { site = site; collation = collation; kind = Within keys }) s h)
-    (record
-    { keys = keys; equalities = equalities_serve item site collation es keys e; says = refl })
+    (record {
+      keys = keys;
+      some = f keys refl;
+      equalities = equalities_serve item site collation es keys e;
+      says = refl;
+    })
 
-or_is : (item : ℕ) (es : BExprs) (o : Option Served) (s : Served) → or_served item es o ≡ Some s
-    → OrServes item s.site s.collation s.kind es
-or_is item es None s h = absurd (cc)
-or_is item es (Some t) s h =
-    within_case item es t.site t.collation (keys_under item t.site t.collation es) s refl h
+or_is : (item : ℕ) (es : BExprs) (o : Option Served) (s : Served) → first_served item es ≡ o
+    → or_served item es o ≡ Some s → OrServes item s.site s.collation s.kind es
+or_is item es None s f h = absurd (cc)
+or_is item Nil (Some t) s f h = absurd (cc)
+or_is item (More e es) (Some t) s f h =
+    within_case item (More e es) t.site t.collation
+    (keys_under item t.site t.collation (More e es)) s
+    (keys_some (key_under t.site t.collation (comparison_served item e))
+    (keys_under item t.site t.collation es)) refl h
 
 null_case : (own : Site → Collation) (item : ℕ) (o : Option ColumnRef) (s : Served)
     → null_served own item o ≡ Some s → (o ≡ Some (record { item = item; site = s.site }))
@@ -268,7 +275,7 @@ serving_is own item (OneOf false left entries entry_conversion collation) s h =
 serving_is own item (IsNull true e) s h = absurd (cc)
 serving_is own item (IsNull false e) s h =
     let r = null_case own item (bare_column e) s h in (refl, r.0, r.1)
-serving_is own item (Any es) s h = or_is item es (first_served item es) s h
+serving_is own item (Any es) s h = or_is item es (first_served item es) s refl h
 serving_is own item (Lit v) s h = absurd (cc)
 serving_is own item (Param n) s h = absurd (cc)
 serving_is own item (Column i n) s h = absurd (cc)

@@ -1,6 +1,5 @@
 -- The list that an index keeps (fileformat2, "Index B-Trees").
-use Rattle.std.specs.Prelude.{Bool, false, true, List, [], ◌∷◌, map, Option, Some, None, ℕ}
-use Rattle.std.specs.Prelude.{slice_get}
+use Rattle.std.specs.Prelude.{Bool, false, true, List, [], ◌∷◌, map, Option, Some, None, ℕ, slice_get}
 use Rattle.std.specs.declared.cmp.Ordering.{Ordering}
 use Rattle.std.specs.Ordering.{flip_args, int_cmp, on, then_cmp}
 use Rattle.list_laws.specs.Order.{sort_by}
@@ -32,8 +31,8 @@ entry_cmp [] = on (λ row. row.rowid) int_cmp
 entry_cmp (s ∷ ss) = then_cmp (on (site_value s.site) (column_cmp s)) (entry_cmp ss)
 
 -- an index kept true: the rows of its table, by its columns and then by rowid
-abbrev pub entries : List SortColumn → List Row → List Row
-entries columns rows = sort_by (entry_cmp columns) rows
+abbrev pub index_entries : List SortColumn → List Row → List Row
+index_entries columns rows = sort_by (entry_cmp columns) rows
 
 abbrev pub index_sort_columns : Option Index → List SortColumn
 index_sort_columns None = []

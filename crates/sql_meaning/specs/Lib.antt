@@ -25,3 +25,8 @@ pub mod Asked
 pub mod Choices
 pub mod Serving
 pub mod TermLists
+pub mod ConditionLaws
+pub mod TermLaws
+pub mod PathLaws
+pub mod PlanLaws
+pub mod ChoiceLaws

@@ -1,6 +1,5 @@
 -- The ways to a table's rows: scans, seeks by rowid or index, and unions of them (eqp).
-use Rattle.std.specs.Prelude.{Option, List, Bool, ℕ, map, Some, None, [], ◌∷◌, ◌++◌, false, ◌||◌}
-use Rattle.std.specs.Prelude.{true}
+use Rattle.std.specs.Prelude.{Option, List, Bool, ℕ, map, Some, None, [], ◌∷◌, ◌++◌, false, ◌||◌, true}
 use Rattle.std.specs.Ordering.{int_cmp, on, eq_by_cmp}
 use Rattle.list_laws.specs.FirstComing.{keep_first}
 use Rattle.sql_meaning.specs.Values.{Affinity, Value}
@@ -9,7 +8,7 @@ use Rattle.sql_meaning.specs.Expressions.{BExpr}
 use Rattle.sql_meaning.specs.Rows.{Assignment, Row}
 use Rattle.sql_meaning.specs.Evaluation.{ev}
 use Rattle.sql_meaning.specs.Walks.{Part, One, Many, NullPart, End, seek, parts_hold}
-use Rattle.sql_meaning.specs.IndexLists.{SortColumn, by_rowid, sort_columns, entries}
+use Rattle.sql_meaning.specs.IndexLists.{SortColumn, by_rowid, sort_columns, index_entries}
 use Rattle.sql_meaning.specs.Schemas.{Schema}
 
 -- a key: an expression over the items placed before, with its conversion
@@ -79,8 +78,8 @@ abbrev pub path_list : Schema → Path → List Row → List Row
 path_list schema TableScan rows = rows
 path_list schema (RowidEq part) rows = rows
 path_list schema (RowidRange low high) rows = rows
-path_list schema (IndexScan index) rows = entries (sort_columns schema index) rows
-path_list schema (IndexSeek index eqs low high) rows = entries (sort_columns schema index) rows
+path_list schema (IndexScan index) rows = index_entries (sort_columns schema index) rows
+path_list schema (IndexSeek index eqs low high) rows = index_entries (sort_columns schema index) rows
 path_list schema (Union branches) rows = rows
 
 abbrev pub form_walk : SeekForm → List Value → Assignment → List Row → List Row

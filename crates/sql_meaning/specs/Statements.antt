@@ -1,7 +1,5 @@
 -- A bound statement, and its rows: what the statement asks for, without any plan.
-use Rattle.std.specs.Prelude.{ℕ, Option, Bool, ℤ, List, false, ◌||◌, ◌==◌, [], ◌∷◌, true, ◌&&◌}
-use Rattle.std.specs.Prelude.{Some, None, slice_get, not, slice_index_or, cond, map, zero, suc, ◌+◌}
-use Rattle.std.specs.Prelude.{length, replicate, ◌≡◌, pos, negsuc, take, drop}
+use Rattle.std.specs.Prelude.{ℕ, Option, Bool, ℤ, List, false, ◌||◌, ◌==◌, [], ◌∷◌, true, ◌&&◌, Some, None, slice_get, not, slice_index_or, cond, map, zero, suc, ◌+◌, length, replicate, ◌≡◌, pos, negsuc, take, drop}
 use Rattle.std.specs.List.{filter, AllByRecursion}
 use Rattle.list_laws.specs.Nest.{place, product}
 use Rattle.sql_meaning.specs.Expressions.{BExpr}
@@ -72,6 +70,16 @@ abbrev pub chosen_hold : (Conjunct → Bool) → List Value → List Conjunct �
 chosen_hold chosen params [] env = true
 chosen_hold chosen params (c ∷ cs) env =
     (not (chosen c) || holds env params c.expr) && chosen_hold chosen params cs env
+
+-- one of the conjuncts that are chosen does not hold
+pub record SomeFails (chosen : Conjunct → Bool) (params : List Value) (conjuncts : List Conjunct)
+    (env : Assignment) : Type 0
+  where
+    pub number : ℕ
+    pub conjunct : Conjunct
+    pub is : slice_get conjuncts number ≡ Some conjunct
+    pub is_chosen : chosen conjunct ≡ true
+    pub fails : holds env params conjunct.expr ≡ false
 
 -- the missing row stands where there is no row
 abbrev pub or_missing : List (Option Row) → List (Option Row)

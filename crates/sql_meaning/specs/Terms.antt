@@ -1,15 +1,11 @@
 -- Terms: what a conjunct says of one column, so that an index can be used (optoverview, "WHERE
 -- Clause Analysis").
-use Rattle.std.specs.Prelude.{Bool, List, ℕ, Option, [], ◌∷◌, cond, map, true, ◌&&◌, false, Some}
-use Rattle.std.specs.Prelude.{None, ◌≡◌, ◌≢◌, ◌⊎◌, ◌++◌}
+use Rattle.std.specs.Prelude.{Bool, List, ℕ, Option, [], ◌∷◌, cond, map, true, ◌&&◌, false, Some, None, ◌≡◌, ◌≢◌, ◌⊎◌, ◌++◌}
 use Rattle.std.specs.List.{AllByRecursion}
-use Rattle.sql_meaning.specs.Paths.{KeyExpr, key_value, EqPart, OneKey, ManyKeys, NullKey, Edge}
-use Rattle.sql_meaning.specs.Paths.{SeekForm}
+use Rattle.sql_meaning.specs.Paths.{KeyExpr, key_value, EqPart, OneKey, ManyKeys, NullKey, Edge, SeekForm}
 use Rattle.sql_meaning.specs.Values.{Collation, Value, is_null, Affinity}
 use Rattle.sql_meaning.specs.Rows.{Site, Assignment, cell, Row, site_value, AtRowid, AtColumn}
-use Rattle.sql_meaning.specs.Expressions.{IsEqual, IsBelow, IsAtMost, IsAbove, IsAtLeast, Op}
-use Rattle.sql_meaning.specs.Expressions.{IsUnequal, BExpr, names, bare_column, BExprs, Nil, More}
-use Rattle.sql_meaning.specs.Expressions.{Cmp, all_names, OneOf, IsNull, Any}
+use Rattle.sql_meaning.specs.Expressions.{IsEqual, IsBelow, IsAtMost, IsAbove, IsAtLeast, Op, IsUnequal, BExpr, names, bare_column, BExprs, Nil, More, Cmp, all_names, OneOf, IsNull, Any}
 use Rattle.sql_meaning.specs.Evaluation.{compares, equals_any}
 use Rattle.sql_meaning.specs.IndexLists.{SortColumn}
 
@@ -80,12 +76,12 @@ kind_of IsAtLeast key = Some (Low key true)
 
 -- one side is the column, which the comparison does not convert, and the other names no column of
 -- the item
-pub record SideServes (item : ℕ) (site : Site) (kind : TermKind) (op : Op) (own other : BExpr) (own_conversion other_conversion : Option Affinity) :
-    Type 0 where
-  pub is_column : bare_column own ≡ Some (record { item = item; site = site })
-  pub unconverted : own_conversion ≡ None
-  pub foreign : AllByRecursion (λ i. i ≢ item) (names other)
-  pub says : kind_of op (record { expr = other; conversion = other_conversion }) ≡ Some kind
+pub record SideServes (item : ℕ) (site : Site) (kind : TermKind) (op : Op) (own other : BExpr) (own_conversion other_conversion : Option Affinity) : Type 0
+  where
+    pub is_column : bare_column own ≡ Some (record { item = item; site = site })
+    pub unconverted : own_conversion ≡ None
+    pub foreign : AllByRecursion (λ i. i ≢ item) (names other)
+    pub says : kind_of op (record { expr = other; conversion = other_conversion }) ≡ Some kind
 
 abbrev pub entry_keys : Option Affinity → BExprs → List KeyExpr
 entry_keys converted Nil = []
@@ -108,18 +104,20 @@ AreEqualities item site collation (More e es) [] = ⊥
 AreEqualities item site collation (More e es) (key ∷ keys) =
     ComparisonServes item site collation (Equals key) e × AreEqualities item site collation es keys
 
-pub record ListServes (item : ℕ) (site : Site) (kind : TermKind) (own : BExpr) (entries : BExprs) (entry_conversion : Option Affinity) :
-    Type 0 where
-  pub is_column : bare_column own ≡ Some (record { item = item; site = site })
-  pub foreign : AllByRecursion (λ i. i ≢ item) (all_names entries)
-  pub says : kind ≡ Within (entry_keys entry_conversion entries)
+pub record ListServes (item : ℕ) (site : Site) (kind : TermKind) (own : BExpr) (entries : BExprs) (entry_conversion : Option Affinity) : Type 0
+  where
+    pub is_column : bare_column own ≡ Some (record { item = item; site = site })
+    pub foreign : AllByRecursion (λ i. i ≢ item) (all_names entries)
+    pub says : kind ≡ Within (entry_keys entry_conversion entries)
 
 -- the OR of these equalities is an IN over their other sides, each with its own conversion
-pub record OrServes (item : ℕ) (site : Site) (collation : Collation) (kind : TermKind) (es : BExprs) :
-    Type 0 where
-  pub keys : List KeyExpr
-  pub equalities : AreEqualities item site collation es keys
-  pub says : kind ≡ Within keys
+pub record OrServes (item : ℕ) (site : Site) (collation : Collation) (kind : TermKind)
+    (es : BExprs) : Type 0
+  where
+    pub keys : List KeyExpr
+    pub some : keys ≢ []
+    pub equalities : AreEqualities item site collation es keys
+    pub says : kind ≡ Within keys
 
 -- the conjunct serves a column of the item: it is a comparison, an IN list, IS NULL, or an OR list
 -- of equalities of one column under one collation

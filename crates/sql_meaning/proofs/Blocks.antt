@@ -1,0 +1,405 @@
+-- The law of blocks: what the loops of a block find, and what they leave out.
+use Rattle.std.specs.List.{AllByRecursion, filter, flat_map}
+use Rattle.std.proofs.Common.{◌==◌, ◌≡◌, ℕ, false, List, ◌∙◌, [], true, Some, sym, subst, slice_get, ◌∷◌, Bool, suc, not, ◌&&◌, ◌||◌, refl, ◌++◌, ◌≢◌, ap, zero-add, cond}
+use Rattle.std.proofs.lemmas.Bool.{eqb-true, eq-eqb}
+use Rattle.std.proofs.lemmas.List.Concat.{flat_map-append}
+use Rattle.std.proofs.lemmas.List.Sorted.{IsPermutation-sym}
+use Rattle.list_laws.specs.Tally.{tally}
+use Rattle.list_laws.specs.Nest.{kept, nested, product, Distinct, Inside, Apart, Rearranges, IsPartOf, same, next, swapped, after}
+use Rattle.list_laws.specs.FirstComing.{has}
+use Rattle.list_laws.proofs.Lists.{all_map, flat_map_same}
+use Rattle.list_laws.proofs.Nests.{block_law, all_reorders}
+use Rattle.list_laws.proofs.Arrangements.{Rearranges-from_permutation}
+use Rattle.list_laws.proofs.Permutations.{IsPermutation-from_tally}
+use Rattle.sql_meaning.specs.Values.{Value}
+use Rattle.sql_meaning.specs.Rows.{Assignment}
+use Rattle.sql_meaning.specs.Schemas.{Schema, Database}
+use Rattle.sql_meaning.specs.Evaluation.{holds}
+use Rattle.sql_meaning.specs.Statements.{Conjunct, Bound, has_number, chosen_hold, all_in, is_empty, is_common, is_left, choices, OwnersAreLeft, SomeFails, numbers_from}
+use Rattle.sql_meaning.specs.UsedTerms.{Used}
+use Rattle.sql_meaning.specs.Expressions.{names}
+use Rattle.sql_meaning.specs.Plans.{Loop, consumed_by, steps_of, always}
+use Rattle.sql_meaning.specs.Conjuncts.{first_at, level_test}
+use Rattle.sql_meaning.specs.Offers.{AreOffers, loop_items}
+use Rattle.sql_meaning.specs.PlanLaws.{first_in, block_holds, placed_by, BlocksLeaveOutWhatFails}
+use Rattle.sql_meaning.proofs.Databases.{IsDatabase, database_for}
+use Rattle.sql_meaning.proofs.Offers.{and_left, and_right}
+use Rattle.sql_meaning.proofs.Means.{Covered, has_append, settled_used, settled_test, first_common, empty_first, sound, free_choices, numbers_distinct}
+use Rattle.sql_meaning.proofs.Plans.{or_cases, test_at, uses, chosen_from, steps_items, ours_free, are_steps, nested_used}
+use Rattle.sql_meaning.proofs.Equals.{rows_eq, rows_true, rows_itself}
+use Rattle.sql_meaning.proofs.ServedNames.{consumed_names}
+
+fails_case : (p : Conjunct → Bool) (params : List Value) (c : Conjunct) (cs : List Conjunct)
+    (a : Assignment)
+    → (chosen_hold p params cs a ≡ false → SomeFails p params cs a) → (b h : Bool) → p c ≡ b
+    → holds a params c.expr ≡ h → ((not b || h) && chosen_hold p params cs a) ≡ false
+    → SomeFails p params (c ∷ cs) a
+fails_case p params c cs a ih true false e g f =
+    record { number = 0; conjunct = c; is = refl; is_chosen = e; fails = g }
+fails_case p params c cs a ih true true e g f =
+    let r =
+    ih f in
+    record {
+      number = suc r.number;
+      conjunct = r.conjunct;
+      is = r.is;
+      is_chosen = r.is_chosen;
+      fails =
+          r.fails;
+    }
+fails_case p params c cs a ih false h e g f =
+    let r =
+    ih f in
+    record {
+      number = suc r.number;
+      conjunct = r.conjunct;
+      is = r.is;
+      is_chosen = r.is_chosen;
+      fails =
+          r.fails;
+    }
+
+some_fails : (p : Conjunct → Bool) (params : List Value) (cs : List Conjunct) (a : Assignment)
+    → chosen_hold p params cs a ≡ false → SomeFails p params cs a
+some_fails p params [] a h = absurd (cc)
+some_fails p params (c ∷ cs) a h =
+    fails_case p params c cs a (some_fails p params cs a) (p c) (holds a params c.expr) refl refl h
+
+covered_by : (ns block left : List ℕ) → all_in ns (block ++ left) ≡ true → Covered ns left block
+covered_by [] block left h = tt
+covered_by (n ∷ ns) block left h = (
+  split n block left (and_left _ (all_in ns (block ++ left)) h),
+  covered_by ns block left (and_right (has_number n (block ++ left)) _ h),
+)
+  where
+    turn : (a b : Bool) → (a || b) ≡ true → (b || a) ≡ true
+    turn true true h = refl
+    turn true false h = refl
+    turn false true h = refl
+    turn false false h = h
+
+    split : (n : ℕ) (block left : List ℕ) → has_number n (block ++ left) ≡ true
+        → (has_number n left || has_number n block) ≡ true
+    split n block left h =
+        turn (has_number n block) (has_number n left) (sym (has_append n block left) ∙ h)
+
+-- what is consumed of the block's conjuncts, the block's loops consume
+abbrev pub ConsumesOwn : Bound → List ℕ → List ℕ → List ℕ → List Loop → Type 0
+ConsumesOwn bound consumed left block loops =
+    (number : ℕ) (c : Conjunct) → slice_get bound.conjuncts number ≡ Some c → is_common c ≡ true
+    → first_in left block (names c.expr) ≡ true → has_number number consumed ≡ true
+    → has_number number (consumed_by loops) ≡ true
+
+not_true : (b : Bool) → not b ≡ true → b ≡ false
+not_true true h = absurd (cc)
+not_true false h = refl
+
+empty_is : (ns : List ℕ) → is_empty ns ≡ true → ns ≡ []
+empty_is [] h = refl
+empty_is (n ∷ ns) h = absurd (cc)
+
+block_case : (schema : Schema) (database : Database) (bound : Bound) (params : List Value)
+    (consumed left : List ℕ) (loops : List Loop) (used : Loop → Used) (a : Assignment) (number : ℕ)
+    (c : Conjunct)
+    → loops ≢ [] → AreOffers schema bound left loops used
+    → ConsumesOwn bound consumed left (loop_items loops) loops
+    → kept (steps_of schema database bound params consumed (uses bound params used) left loops) a
+    ≡ true
+    → slice_get bound.conjuncts number ≡ Some c → is_common c ≡ true
+    → first_in left (loop_items loops) (names c.expr) ≡ true → (b : Bool)
+    → has_number number consumed ≡ b → holds a params c.expr ≡ true
+block_case schema database bound params consumed left loops used a number c some o own k is common first true e = settled_used schema database bound params consumed left loops used a number c o k is common (own number c is common first e)
+block_case schema database bound params consumed left [] used a number c some o own k is common first false e = absurd (some refl)
+block_case schema database bound params consumed left (l ∷ ls) used a number c some o own k is common first false e =
+    or_cases
+    (all_in (names c.expr) (loop_items (l ∷ ls) ++ left) && not (all_in (names c.expr) left))
+    (is_empty (names c.expr) && is_empty left)
+    (λ t. settled_test schema database bound params consumed left (l ∷ ls)
+    (uses bound params used) a number c k is common e
+    (covered_by (names c.expr) (loop_items (l ∷ ls)) left
+    (and_left _ (not (all_in (names c.expr) left)) t))
+    (not_true _ (and_right (all_in (names c.expr) (loop_items (l ∷ ls) ++ left)) _ t)))
+    (λ t. test_at is_common params consumed left l.item 0 bound.conjuncts a number c
+    (and_left (level_test is_common params consumed left l.item 0 bound.conjuncts a) _
+    (and_right (uses bound params used l a) _ k)) is common
+    (subst (λ (ps : List ℕ). first_at ps l.item c ≡ true)
+    (sym (empty_is left (and_right (is_empty (names c.expr)) _ t)))
+    (first_common [] l.item (names c.expr) c.owner common
+    (empty_first l.item (names c.expr) (and_left _ (is_empty left) t))))
+    (ap (λ m. has_number m consumed) (zero-add number) ∙ e))
+    first
+
+cond_same : (b : Bool) → cond b true false ≡ b
+cond_same true = refl
+cond_same false = refl
+
+-- the law of a block, for any list of consumed conjuncts of which the block consumes its own
+block_of_loops : (schema : Schema) (database : Database) (bound : Bound)
+    (params : List Value) (consumed left : List ℕ) (loops : List Loop) (used : Loop → Used)
+    (order : List ℕ) (G : List Assignment)
+    → IsDatabase schema bound database → OwnersAreLeft bound → loops ≢ []
+    → AreOffers schema bound left loops used
+    → AllByRecursion (λ l. is_left bound l.item ≡ false) loops
+    → ConsumesOwn bound consumed left (loop_items loops) loops
+    → Rearranges (λ i. not (is_left bound i)) (loop_items loops) order → Distinct order
+    → Apart left order → AllByRecursion (Inside order) G
+    → IsPartOf (order ++ left) (chosen_hold is_common params bound.conjuncts ∷ [])
+    (flat_map
+    (nested (steps_of schema database bound params consumed (uses bound params used) left loops)) G)
+    (flat_map
+    (λ g. filter (block_holds bound params left (loop_items loops))
+    (product (choices database bound params) order g)) G)
+block_of_loops schema database bound params consumed left loops used order G valid owners some offered plain own re distinct apart inside =
+    block_law (choices database bound params)
+    (λ i h env a. free_choices database bound params i (is_left bound i) h _ _ _)
+    (chosen_hold is_common params bound.conjuncts ∷ [])
+    (block_holds bound params left (loop_items loops))
+    (steps_of schema database bound params consumed (uses bound params used) left loops) order left
+    G
+    (subst (λ (is : List ℕ). Rearranges (λ i. not (is_left bound i)) is order)
+    (sym (steps_items schema database bound params consumed (uses bound params used) left loops))
+    re) inside distinct apart
+    (are_steps schema database bound params consumed left loops used valid owners offered
+    (ours_free bound consumed loops owners plain))
+    (λ a k. chosen_from _ params bound.conjuncts a
+    (λ number c is p.
+    block_case schema database bound params consumed left loops used a number c some offered own k
+    is (and_left (is_common c) _ p) (and_right (is_common c) _ p)
+    (has_number number consumed) refl))
+    (λ a h. sound schema database bound params consumed left loops used a offered
+    (sym (cond_same _) ∙ h))
+
+-- the items of loops that are offers: none is placed before, and each stands once
+or_false_left : (a b : Bool) → (a || b) ≡ false → a ≡ false
+or_false_left true b h = absurd (cc)
+or_false_left false b h = refl
+
+or_false_right : (a b : Bool) → (a || b) ≡ false → b ≡ false
+or_false_right true b h = absurd (cc)
+or_false_right false b h = h
+
+unlike : (m n : ℕ) (b : Bool) → ((m == n) || b) ≡ false → m ≢ n
+unlike m n b h e =
+    let yes : (m == n) ≡ true = eq-eqb m n e in
+    let no : (m == n) ≡ false = or_false_left _ b h in cc
+
+fresh : (schema : Schema) (bound : Bound) (placed : List ℕ) (loops : List Loop)
+    (used : Loop → Used)
+    → AreOffers schema bound placed loops used
+    → AllByRecursion (λ i. has_number i placed ≡ false) (loop_items loops)
+fresh schema bound placed [] used o = tt
+fresh schema bound placed (l ∷ ls) used o = (
+  o.0.unplaced,
+  all_map _ _ (loop_items ls) (λ i h. or_false_right (i == l.item) (has_number i placed) h)
+  (fresh schema bound (l.item ∷ placed) ls used o.1),
+)
+
+each_once : (schema : Schema) (bound : Bound) (placed : List ℕ) (loops : List Loop)
+    (used : Loop → Used)
+    → AreOffers schema bound placed loops used → Distinct (loop_items loops)
+each_once schema bound placed [] used o = tt
+each_once schema bound placed (l ∷ ls) used o = (
+  all_map _ _ (loop_items ls) (λ i h. unlike i l.item (has_number i placed) h)
+  (fresh schema bound (l.item ∷ placed) ls used o.1),
+  each_once schema bound (l.item ∷ placed) ls used o.1,
+)
+
+apart_from : (placed items : List ℕ) → AllByRecursion (λ i. has_number i placed ≡ false) items
+    → Apart placed items
+apart_from [] items h = tt
+apart_from (j ∷ placed) items h = (
+  all_map _ _ items (λ i n. unlike i j (has_number i placed) n) h,
+  apart_from placed items
+  (all_map _ _ items (λ i n. or_false_right (i == j) (has_number i placed) n) h),
+)
+
+offers_front : (schema : Schema) (bound : Bound) (placed : List ℕ) (xs ys : List Loop)
+    (used : Loop → Used)
+    → AreOffers schema bound placed (xs ++ ys) used → AreOffers schema bound placed xs used
+offers_front schema bound placed [] ys used o = tt
+offers_front schema bound placed (x ∷ xs) ys used o =
+    (o.0, offers_front schema bound (x.item ∷ placed) xs ys used o.1)
+
+offers_back : (schema : Schema) (bound : Bound) (placed : List ℕ) (xs ys : List Loop)
+    (used : Loop → Used)
+    → AreOffers schema bound placed (xs ++ ys) used
+    → AreOffers schema bound (placed_by xs placed) ys used
+offers_back schema bound placed [] ys used o = o
+offers_back schema bound placed (x ∷ xs) ys used o =
+    offers_back schema bound (x.item ∷ placed) xs ys used o.1
+
+-- what was placed stays placed
+or_turn : (a b c : Bool) → (a || (b || c)) ≡ (b || (a || c))
+or_turn true true c = refl
+or_turn true false c = refl
+or_turn false b c = refl
+
+has_placed : (n : ℕ) (loops : List Loop) (placed : List ℕ)
+    → has_number n (placed_by loops placed)
+    ≡ (has_number n (loop_items loops) || has_number n placed)
+has_placed n [] placed = refl
+has_placed n (l ∷ ls) placed =
+    has_placed n ls (l.item ∷ placed)
+    ∙ or_turn (has_number n (loop_items ls)) (n == l.item) (has_number n placed)
+    ∙ or_nest (n == l.item) (has_number n (loop_items ls)) (has_number n placed)
+  where
+    or_nest : (a b c : Bool) → (a || (b || c)) ≡ ((a || b) || c)
+    or_nest true b c = refl
+    or_nest false b c = refl
+
+all_in_more : (ns ms os : List ℕ) → ((n : ℕ) → has_number n ms ≡ true → has_number n os ≡ true)
+    → all_in ns ms ≡ true → all_in ns os ≡ true
+all_in_more [] ms os f h = refl
+all_in_more (n ∷ ns) ms os f h =
+    rw (f n (and_left _ (all_in ns ms) h)) (all_in_more ns ms os f (and_right (has_number n ms) _ h))
+
+or_true_right : (a b : Bool) → b ≡ true → (a || b) ≡ true
+or_true_right true b h = refl
+or_true_right false b h = h
+
+-- a list that has a member is not empty
+not_empty : (m : ℕ) (ns : List ℕ) → has_number m ns ≡ true → is_empty ns ≡ false
+not_empty m [] h = absurd (cc)
+not_empty m (n ∷ ns) h = refl
+
+member_in : (m : ℕ) (ns ms : List ℕ) → has_number m ns ≡ true → all_in ns ms ≡ true
+    → has_number m ms ≡ true
+member_in m [] ms h k = absurd (cc)
+member_in m (n ∷ ns) ms h k =
+    or_cases (m == n) (has_number m ns)
+    (λ e. ap (λ (i : ℕ). has_number i ms) (eqb-true m n e) ∙ and_left _ (all_in ns ms) k)
+    (λ e. member_in m ns ms e (and_right (has_number n ms) _ k)) h
+
+-- a conjunct that loops consume names one of their items, and nothing that is not placed by then
+consumed_before : (schema : Schema) (bound : Bound) (placed : List ℕ) (loops : List Loop)
+    (used : Loop → Used) (number : ℕ) (c : Conjunct)
+    → AreOffers schema bound placed loops used → slice_get bound.conjuncts number ≡ Some c
+    → has_number number (consumed_by loops) ≡ true
+    → (all_in (names c.expr) (placed_by loops placed) ≡ true) × (is_empty (names c.expr) ≡ false)
+consumed_before schema bound placed [] used number c o is h = absurd (cc)
+consumed_before schema bound placed (l ∷ ls) used number c o is h =
+    or_cases (has_number number l.consumed) (has_number number (consumed_by ls))
+    (λ e. let named = consumed_names schema bound placed l (used l) number c o.0 e is in (
+      all_in_more (names c.expr) (l.item ∷ placed) (placed_by ls (l.item ∷ placed))
+          (λ n there. has_placed n ls (l.item ∷ placed) ∙ or_true_right (has_number n (loop_items ls)) _ there)
+          named.inside,
+      not_empty l.item (names c.expr) named.there,
+    ))
+    (λ e. consumed_before schema bound (l.item ∷ placed) ls used number c o.1 is e)
+    (sym (has_append number l.consumed (consumed_by ls)) ∙ h)
+
+-- a conjunct that later loops consume names an item that isn't placed yet
+consumed_later : (schema : Schema) (bound : Bound) (placed : List ℕ) (loops : List Loop)
+    (used : Loop → Used) (number : ℕ) (c : Conjunct)
+    → AreOffers schema bound placed loops used → slice_get bound.conjuncts number ≡ Some c
+    → has_number number (consumed_by loops) ≡ true
+    → (m : ℕ) × (has_number m (names c.expr) ≡ true) × (has_number m placed ≡ false)
+consumed_later schema bound placed [] used number c o is h = absurd (cc)
+consumed_later schema bound placed (l ∷ ls) used number c o is h =
+    or_cases (has_number number l.consumed) (has_number number (consumed_by ls))
+    (λ e. (
+      l.item,
+      (consumed_names schema bound placed l (used l) number c o.0 e is).there,
+      o.0.unplaced,
+    ))
+    (λ e. let r = consumed_later schema bound (l.item ∷ placed) ls used number c o.1 is e in
+    (r.0, r.1, or_false_right (r.0 == l.item) (has_number r.0 placed) r.2))
+    (sym (has_append number l.consumed (consumed_by ls)) ∙ h)
+
+known_before : (left block named : List ℕ) → all_in named left ≡ true → is_empty named ≡ false
+    → first_in left block named ≡ false
+known_before left block named h e = rw (h, e) (and_not (all_in named (block ++ left)))
+  where
+    and_not : (a : Bool) → ((a && false) || false) ≡ false
+    and_not true = refl
+    and_not false = refl
+
+known_later : (left block named : List ℕ) (m : ℕ) → has_number m named ≡ true
+    → has_number m (block ++ left) ≡ false → first_in left block named ≡ true → ⊥
+known_later left block named m there out first =
+    or_cases (all_in named (block ++ left) && not (all_in named left))
+    (is_empty named && is_empty left)
+    (λ e. let yes : has_number m (block ++ left) ≡ true =
+    member_in m named (block ++ left) there (and_left _ (not (all_in named left)) e) in
+    let no : true ≡ false = sym yes ∙ out in cc)
+    (λ e. let no : true ≡ false = sym (and_left _ (is_empty left) e) ∙ not_empty m named there in cc)
+    first
+
+-- in a plan a block consumes its own
+consumes_own : (schema : Schema) (bound : Bound) (before block later : List Loop)
+    (used : Loop → Used)
+    → AreOffers schema bound [] (before ++ (block ++ later)) used
+    → ConsumesOwn bound (consumed_by (before ++ (block ++ later))) (placed_by before [])
+    (loop_items block) block
+consumes_own schema bound before block later used o = λ number c is common first consumed.
+    let left = placed_by before [] in
+    let here = offers_back schema bound [] before (block ++ later) used o in
+    let after_block = offers_back schema bound left block later used here in
+    or_cases (has_number number (consumed_by before)) (has_number number (consumed_by (block ++ later)))
+    (λ e.
+    let r = consumed_before schema bound [] before used number c
+    (offers_front schema bound [] before (block ++ later) used o) is e in
+    absurd (let no : true ≡ false =
+    sym first ∙ known_before left (loop_items block) (names c.expr) r.0 r.1 in cc))
+    (λ e. or_cases (has_number number (consumed_by block)) (has_number number (consumed_by later))
+    (λ t. t)
+    (λ t. let r = consumed_later schema bound (placed_by block left) later used number c after_block is t in
+    absurd
+    (known_later left (loop_items block) (names c.expr) r.0 r.1
+    (has_append r.0 (loop_items block) left ∙ sym (has_placed r.0 block left) ∙ r.2) first))
+    (sym (has_append number (consumed_by block) (consumed_by later))
+    ∙ ap (has_number number) (sym (consumed_append block later)) ∙ e))
+    (sym (has_append number (consumed_by before) (consumed_by (block ++ later)))
+    ∙ ap (has_number number) (sym (consumed_append before (block ++ later))) ∙ consumed)
+  where
+    consumed_append : (xs ys : List Loop) → consumed_by (xs ++ ys) ≡ consumed_by xs ++ consumed_by ys
+    consumed_append xs ys = flat_map-append (λ l. l.consumed) xs ys
+
+Rearranges-sym : {free : ℕ → Bool} (is js : List ℕ) → Rearranges free is js → Rearranges free js is
+Rearranges-sym is js (same items) = same items
+Rearranges-sym is js (next i xs ys r) = next i ys xs (Rearranges-sym xs ys r)
+Rearranges-sym is js (swapped i j xs n f g) = swapped j i xs (λ e. n (sym e)) g f
+Rearranges-sym is js (after xs ys zs r s) =
+    after zs ys xs (Rearranges-sym ys zs s) (Rearranges-sym xs ys r)
+
+items_free : (bound : Bound) (loops : List Loop)
+    → AllByRecursion (λ l. is_left bound l.item ≡ false) loops
+    → AllByRecursion (λ i. not (is_left bound i) ≡ true) (loop_items loops)
+items_free bound [] h = tt
+items_free bound (l ∷ ls) h = (ap not h.0, items_free bound ls h.1)
+
+pub blocks_leave_out_what_fails : BlocksLeaveOutWhatFails
+blocks_leave_out_what_fails =
+    λ schema bound before block later used start count offers owners some plain order database valid
+    params left inside.
+    let here = offers_back schema bound [] before (block ++ later) used offers in
+    let own = offers_front schema bound (placed_by before []) block later used here in
+    let items = numbers_from start count in
+    let back : Rearranges (λ i. not (is_left bound i)) items (loop_items block) =
+    Rearranges-from_permutation (λ i. not (is_left bound i)) items (loop_items block)
+    (items_free bound block plain) (each_once schema bound (placed_by before []) block used own)
+    (IsPermutation-sym (loop_items block) items order) in
+    let law =
+    block_of_loops schema database bound params (consumed_by (before ++ (block ++ later)))
+    (placed_by before []) block used items left (database_for schema bound database valid) owners
+    some own plain (consumes_own schema bound before block later used offers)
+    (Rearranges-sym items (loop_items block) back) (numbers_distinct start count)
+    (apart_from (placed_by before []) items
+    (all_reorders _ items (loop_items block) back
+    (fresh schema bound (placed_by before []) block used own))) inside in
+    record {
+      stays = law.stays;
+      permutes =
+          IsPermutation-from_tally rows_eq rows_true rows_itself _ _
+          (record {
+            each = λ f.
+                ap (tally f)
+                (flat_map_same _ _ left
+                (λ g. nested_used schema database bound params (consumed_by (before ++ (block ++ later)))
+                (λ l. always) (uses bound params used) (placed_by before []) block g))
+                ∙ law.same.each f;
+          });
+      left_out = λ h e a agrees.
+          some_fails is_common params bound.conjuncts a
+          (sym (cond_same _) ∙ law.left_out h e a agrees);
+    }

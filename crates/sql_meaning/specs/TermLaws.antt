@@ -1,0 +1,38 @@
+-- What a term says: as much as its conjunct, or no more than all conjuncts.
+use Rattle.std.specs.Prelude.{◌≡◌, ℕ, true, List}
+use Rattle.std.specs.List.{AllByRecursion, filter}
+use Rattle.sql_meaning.specs.Values.{Value, Collation}
+use Rattle.sql_meaning.specs.Rows.{Assignment, Site, cell}
+use Rattle.sql_meaning.specs.Expressions.{BExpr, ColumnRef, IsEqual}
+use Rattle.sql_meaning.specs.Evaluation.{holds, compares}
+use Rattle.sql_meaning.specs.Schemas.{Schema}
+use Rattle.sql_meaning.specs.Items.{Item, FitsExpr, own_column}
+use Rattle.sql_meaning.specs.Terms.{Term, TermKind, Serves, kind_holds, term_holds}
+use Rattle.sql_meaning.specs.Links.{Linked, Derives}
+use Rattle.sql_meaning.specs.Statements.{Bound, FitsStatement, exprs_of, chosen_hold}
+use Rattle.sql_meaning.specs.Conjuncts.{may_derive}
+
+-- a conjunct that serves a column is true exactly where its term is true of the column
+abbrev pub TermsSayTheirConjuncts : Type 0
+TermsSayTheirConjuncts =
+    (item : ℕ) (site : Site) (collation : Collation) (kind : TermKind) (e : BExpr)
+    → Serves item site collation kind e → (env : Assignment) (params : List Value)
+    → holds env params e ≡ kind_holds env params collation kind (cell env item site)
+
+-- where conjuncts hold, the columns that they link are equal by their own collation
+abbrev pub LinkedColumnsAreEqual : Type 0
+LinkedColumnsAreEqual =
+    (schema : Schema) (items : List Item) (es : List BExpr) → AllByRecursion (FitsExpr schema items) es
+    → (c d : ColumnRef) → Linked schema items es c d → (env : Assignment) (params : List Value)
+    → AllByRecursion (λ e. holds env params e ≡ true) es
+    → compares IsEqual (own_column schema items c).collation (cell env c.item c.site)
+    (cell env d.item d.site) ≡ true
+
+-- where all conjuncts hold that may derive terms for the item, each derived term holds
+abbrev pub DerivedTermsHold : Type 0
+DerivedTermsHold =
+    (schema : Schema) (bound : Bound) (item : ℕ) (t : Term) → FitsStatement schema bound
+    → Derives schema bound.items (exprs_of (filter (may_derive bound item) bound.conjuncts)) item t
+    → (env : Assignment) (params : List Value)
+    → chosen_hold (may_derive bound item) params bound.conjuncts env ≡ true
+    → term_holds env params item t ≡ true
