@@ -191,7 +191,7 @@ fresh schema bound placed [] used o = tt
 fresh schema bound placed (l ∷ ls) used o = (
   o.0.unplaced,
   all_map _ _ (loop_items ls) (λ i h. or_false_right (i == l.item) (has_number i placed) h)
-  (fresh schema bound (l.item ∷ placed) ls used o.1),
+      (fresh schema bound (l.item ∷ placed) ls used o.1),
 )
 
 each_once : (schema : Schema) (bound : Bound) (placed : List ℕ) (loops : List Loop)
@@ -200,7 +200,7 @@ each_once : (schema : Schema) (bound : Bound) (placed : List ℕ) (loops : List 
 each_once schema bound placed [] used o = tt
 each_once schema bound placed (l ∷ ls) used o = (
   all_map _ _ (loop_items ls) (λ i h. unlike i l.item (has_number i placed) h)
-  (fresh schema bound (l.item ∷ placed) ls used o.1),
+      (fresh schema bound (l.item ∷ placed) ls used o.1),
   each_once schema bound (l.item ∷ placed) ls used o.1,
 )
 
@@ -210,7 +210,7 @@ apart_from [] items h = tt
 apart_from (j ∷ placed) items h = (
   all_map _ _ items (λ i n. unlike i j (has_number i placed) n) h,
   apart_from placed items
-  (all_map _ _ items (λ i n. or_false_right (i == j) (has_number i placed) n) h),
+      (all_map _ _ items (λ i n. or_false_right (i == j) (has_number i placed) n) h),
 )
 
 offers_front : (schema : Schema) (bound : Bound) (placed : List ℕ) (xs ys : List Loop)

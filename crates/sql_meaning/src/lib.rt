@@ -1,2 +1,26 @@
 //! What values, statements, walks and plans mean, over plain data, and the laws of that meaning.
+//!
+//! The definitions are in specs/, in the order of `specs/Lib.antt`; docs/meaning.md tells them in
+//! words. There is no code here: each public function does nothing, and its contract is a law. The
+//! law that the advisor is believed by is [`offered_plans_mean`].
 #![tactic(auto)]
+
+mod conditions;
+mod derivations;
+mod nested_loops;
+mod offering;
+mod walks;
+
+pub use conditions::{conjuncts_say_their_conditions, values_depend_on_named_items};
+pub use derivations::{derived_terms_hold, linked_columns_are_equal, terms_say_their_conjuncts};
+pub use nested_loops::{
+    blocks_leave_out_what_fails, loops_give_the_rows, offered_plans_mean, plans_give_the_order,
+};
+pub use offering::{
+    index_scans_are_offers, index_seeks_are_offers, rowid_seeks_are_offers, table_scans_are_offers,
+    unions_are_offers,
+};
+pub use walks::{
+    consumed_conjuncts_hold, index_lists_are_sorted, unions_have_each_row_once, unions_miss_no_row,
+    walks_are_filters,
+};

@@ -1,0 +1,5 @@
+use Rattle.sql_meaning.proofs.Choices.{scan_offer}
+use Rattle.sql_meaning.proofs.offering.table_scans_are_offers.Goals as goal
+
+pub returns : goal.returns
+returns c = scan_offer

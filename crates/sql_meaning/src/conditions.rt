@@ -1,0 +1,15 @@
+//! Laws of conditions, each on a function that does nothing.
+
+ghost use Rattle.sql_meaning.specs.ConditionLaws.{ConjunctsSayTheirConditions, ValuesDependOnNamedItems};
+
+/// An expression has the same value under assignments that agree on the items that it names. So a
+/// conjunct may be tested as soon as these are placed.
+pub fn values_depend_on_named_items()
+    ensures { ValuesDependOnNamedItems }
+{}
+
+/// The ON and WHERE conditions hold exactly where each of their conjuncts does: for the common ones,
+/// and for those of each LEFT JOIN.
+pub fn conjuncts_say_their_conditions()
+    ensures { ConjunctsSayTheirConditions }
+{}

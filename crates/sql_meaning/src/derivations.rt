@@ -1,0 +1,20 @@
+//! Laws of terms, each on a function that does nothing.
+
+ghost use Rattle.sql_meaning.specs.TermLaws.{DerivedTermsHold, LinkedColumnsAreEqual, TermsSayTheirConjuncts};
+
+/// A conjunct that serves a column is true exactly where its term is true of the column.
+pub fn terms_say_their_conjuncts()
+    ensures { TermsSayTheirConjuncts }
+{}
+
+/// Where the conjuncts hold, columns that they link are equal, under the collation that all of them
+/// own.
+pub fn linked_columns_are_equal()
+    ensures { LinkedColumnsAreEqual }
+{}
+
+/// Where the common conjuncts hold, each derived equality holds. So a walk by it loses no row of an
+/// answer, though it consumes no conjunct.
+pub fn derived_terms_hold()
+    ensures { DerivedTermsHold }
+{}
