@@ -3,7 +3,8 @@ use Rattle.std.specs.declared.cmp.Ordering.{Ordering}
 use Rattle.std.specs.declared.cmp.Ordering.TheVariants.{Less, Equal as Ties, Greater}
 use Rattle.std.specs.List.{AllByRecursion}
 use Rattle.std.specs.Cmp.{IsTotalOrder}
-use Rattle.std.proofs.Common.{◌≡◌, refl, List, [], ◌∷◌, ◌++◌, ap, ◌∙◌, Bool, ◌≢◌, ℕ, Option, sym, subst, ◌<◌, true, map, length, false, cond, not}
+use Rattle.std.proofs.Common.{◌≡◌, refl, List, [], ◌∷◌, ◌++◌, ap, ◌∙◌, Bool, ◌≢◌, ℕ, Option, sym}
+use Rattle.std.proofs.Common.{subst, ◌<◌, true, map, length, false, cond, not}
 use Rattle.std.proofs.lemmas.Cmp.{on_total, then_total, nat_cmp_total}
 use Rattle.list_laws.specs.Order.{Ascends, sort_by}
 use Rattle.list_laws.specs.Nest.{place, nested, Distinct, Inside}
@@ -19,9 +20,11 @@ use Rattle.sql_meaning.specs.Rows.{Assignment, Row}
 use Rattle.sql_meaning.specs.Statements.{SortKey, Bound, no_rows, statement_rows}
 use Rattle.sql_meaning.specs.Orders.{key_cmp, by_keys}
 use Rattle.sql_meaning.specs.Schemas.{Schema, Database}
-use Rattle.sql_meaning.specs.Plans.{Loop, loop_walk, step_of, steps_of, Plan, plan_walks, always, consumed_by}
+use Rattle.sql_meaning.specs.Plans.{Loop, loop_walk, step_of, steps_of, Plan, plan_walks, always}
+use Rattle.sql_meaning.specs.Plans.{consumed_by}
 use Rattle.sql_meaning.specs.Offers.{loop_items, FitsOffers}
-use Rattle.sql_meaning.specs.OrderState.{Passing, Loses, Leaves, loop_passes, after_passing, state, is_done, backward, directions_after, directions, FitsOrder}
+use Rattle.sql_meaning.specs.OrderState.{Passing, Loses, Leaves, loop_passes, after_passing, state}
+use Rattle.sql_meaning.specs.OrderState.{is_done, backward, directions_after, directions, FitsOrder}
 use Rattle.sql_meaning.specs.Evaluation.{ev}
 use Rattle.sql_meaning.specs.PlanLaws.{LoopsGiveTheRows, PlansGiveTheOrder, OfferedPlansMean}
 use Rattle.sql_meaning.specs.Asked.{Means, uncut}

@@ -1,11 +1,13 @@
 -- The law of blocks: what the loops of a block find, and what they leave out.
 use Rattle.std.specs.List.{AllByRecursion, filter, flat_map}
-use Rattle.std.proofs.Common.{◌==◌, ◌≡◌, ℕ, false, List, ◌∙◌, [], true, Some, sym, subst, slice_get, ◌∷◌, Bool, suc, not, ◌&&◌, ◌||◌, refl, ◌++◌, ◌≢◌, ap, zero-add, cond}
+use Rattle.std.proofs.Common.{◌==◌, ◌≡◌, ℕ, false, List, ◌∙◌, [], true, Some, sym, subst, slice_get}
+use Rattle.std.proofs.Common.{◌∷◌, Bool, suc, not, ◌&&◌, ◌||◌, refl, ◌++◌, ◌≢◌, ap, zero-add, cond}
 use Rattle.std.proofs.lemmas.Bool.{eqb-true, eq-eqb}
 use Rattle.std.proofs.lemmas.List.Concat.{flat_map-append}
 use Rattle.std.proofs.lemmas.List.Sorted.{IsPermutation-sym}
 use Rattle.list_laws.specs.Tally.{tally}
-use Rattle.list_laws.specs.Nest.{kept, nested, product, Distinct, Inside, Apart, Rearranges, IsPartOf, same, next, swapped, after}
+use Rattle.list_laws.specs.Nest.{kept, nested, product, Distinct, Inside, Apart, Rearranges}
+use Rattle.list_laws.specs.Nest.{IsPartOf, same, next, swapped, after}
 use Rattle.list_laws.specs.FirstComing.{has}
 use Rattle.list_laws.proofs.Lists.{all_map, flat_map_same}
 use Rattle.list_laws.proofs.Nests.{block_law, all_reorders}
@@ -15,7 +17,9 @@ use Rattle.sql_meaning.specs.Values.{Value}
 use Rattle.sql_meaning.specs.Rows.{Assignment}
 use Rattle.sql_meaning.specs.Schemas.{Schema, Database}
 use Rattle.sql_meaning.specs.Evaluation.{holds}
-use Rattle.sql_meaning.specs.Statements.{Conjunct, Bound, has_number, chosen_hold, all_in, is_empty, is_common, is_left, choices, OwnersAreLeft, SomeFails, numbers_from}
+use Rattle.sql_meaning.specs.Statements.{Conjunct, Bound, has_number, chosen_hold, all_in, is_empty}
+use Rattle.sql_meaning.specs.Statements.{is_common, is_left, choices, OwnersAreLeft, SomeFails}
+use Rattle.sql_meaning.specs.Statements.{numbers_from}
 use Rattle.sql_meaning.specs.UsedTerms.{Used}
 use Rattle.sql_meaning.specs.Expressions.{names}
 use Rattle.sql_meaning.specs.Plans.{Loop, consumed_by, steps_of, always}
@@ -24,8 +28,10 @@ use Rattle.sql_meaning.specs.Offers.{AreOffers, loop_items}
 use Rattle.sql_meaning.specs.PlanLaws.{first_in, block_holds, placed_by, BlocksLeaveOutWhatFails}
 use Rattle.sql_meaning.proofs.Databases.{IsDatabase, database_for}
 use Rattle.sql_meaning.proofs.Offers.{and_left, and_right}
-use Rattle.sql_meaning.proofs.Means.{Covered, has_append, settled_used, settled_test, first_common, empty_first, sound, free_choices, numbers_distinct}
-use Rattle.sql_meaning.proofs.Plans.{or_cases, test_at, uses, chosen_from, steps_items, ours_free, are_steps, nested_used}
+use Rattle.sql_meaning.proofs.Means.{Covered, has_append, settled_used, settled_test, first_common}
+use Rattle.sql_meaning.proofs.Means.{empty_first, sound, free_choices, numbers_distinct}
+use Rattle.sql_meaning.proofs.Plans.{or_cases, test_at, uses, chosen_from, steps_items, ours_free}
+use Rattle.sql_meaning.proofs.Plans.{are_steps, nested_used}
 use Rattle.sql_meaning.proofs.Equals.{rows_eq, rows_true, rows_itself}
 use Rattle.sql_meaning.proofs.ServedNames.{consumed_names}
 
@@ -251,7 +257,8 @@ all_in_more : (ns ms os : List ℕ) → ((n : ℕ) → has_number n ms ≡ true 
     → all_in ns ms ≡ true → all_in ns os ≡ true
 all_in_more [] ms os f h = refl
 all_in_more (n ∷ ns) ms os f h =
-    rw (f n (and_left _ (all_in ns ms) h)) (all_in_more ns ms os f (and_right (has_number n ms) _ h))
+    rw (f n (and_left _ (all_in ns ms) h))
+    (all_in_more ns ms os f (and_right (has_number n ms) _ h))
 
 or_true_right : (a b : Bool) → b ≡ true → (a || b) ≡ true
 or_true_right true b h = refl
@@ -281,7 +288,8 @@ consumed_before schema bound placed (l ∷ ls) used number c o is h =
     or_cases (has_number number l.consumed) (has_number number (consumed_by ls))
     (λ e. let named = consumed_names schema bound placed l (used l) number c o.0 e is in (
       all_in_more (names c.expr) (l.item ∷ placed) (placed_by ls (l.item ∷ placed))
-          (λ n there. has_placed n ls (l.item ∷ placed) ∙ or_true_right (has_number n (loop_items ls)) _ there)
+          (λ n there. has_placed n ls (l.item ∷ placed)
+          ∙ or_true_right (has_number n (loop_items ls)) _ there)
           named.inside,
       not_empty l.item (names c.expr) named.there,
     ))
@@ -322,7 +330,8 @@ known_later left block named m there out first =
     (λ e. let yes : has_number m (block ++ left) ≡ true =
     member_in m named (block ++ left) there (and_left _ (not (all_in named left)) e) in
     let no : true ≡ false = sym yes ∙ out in cc)
-    (λ e. let no : true ≡ false = sym (and_left _ (is_empty left) e) ∙ not_empty m named there in cc)
+    (λ e. let no : true ≡ false = sym (and_left _ (is_empty left) e)
+    ∙ not_empty m named there in cc)
     first
 
 -- in a plan a block consumes its own
@@ -335,7 +344,8 @@ consumes_own schema bound before block later used o = λ number c is common firs
     let left = placed_by before [] in
     let here = offers_back schema bound [] before (block ++ later) used o in
     let after_block = offers_back schema bound left block later used here in
-    or_cases (has_number number (consumed_by before)) (has_number number (consumed_by (block ++ later)))
+    or_cases (has_number number (consumed_by before))
+    (has_number number (consumed_by (block ++ later)))
     (λ e.
     let r = consumed_before schema bound [] before used number c
     (offers_front schema bound [] before (block ++ later) used o) is e in
@@ -343,7 +353,8 @@ consumes_own schema bound before block later used o = λ number c is common firs
     sym first ∙ known_before left (loop_items block) (names c.expr) r.0 r.1 in cc))
     (λ e. or_cases (has_number number (consumed_by block)) (has_number number (consumed_by later))
     (λ t. t)
-    (λ t. let r = consumed_later schema bound (placed_by block left) later used number c after_block is t in
+    (λ t. let r =
+    consumed_later schema bound (placed_by block left) later used number c after_block is t in
     absurd
     (known_later left (loop_items block) (names c.expr) r.0 r.1
     (has_append r.0 (loop_items block) left ∙ sym (has_placed r.0 block left) ∙ r.2) first))
@@ -352,7 +363,8 @@ consumes_own schema bound before block later used o = λ number c is common firs
     (sym (has_append number (consumed_by before) (consumed_by (block ++ later)))
     ∙ ap (has_number number) (sym (consumed_append before (block ++ later))) ∙ consumed)
   where
-    consumed_append : (xs ys : List Loop) → consumed_by (xs ++ ys) ≡ consumed_by xs ++ consumed_by ys
+    consumed_append : (xs ys : List Loop)
+        → consumed_by (xs ++ ys) ≡ consumed_by xs ++ consumed_by ys
     consumed_append xs ys = flat_map-append (λ l. l.consumed) xs ys
 
 Rearranges-sym : {free : ℕ → Bool} (is js : List ℕ) → Rearranges free is js → Rearranges free js is
@@ -395,7 +407,8 @@ blocks_leave_out_what_fails =
             each = λ f.
                 ap (tally f)
                 (flat_map_same _ _ left
-                (λ g. nested_used schema database bound params (consumed_by (before ++ (block ++ later)))
+                (λ g. nested_used schema database bound params
+                (consumed_by (before ++ (block ++ later)))
                 (λ l. always) (uses bound params used) (placed_by before []) block g))
                 ∙ law.same.each f;
           });

@@ -1,16 +1,25 @@
 use Rattle.std.specs.List.{AllByRecursion}
 use Rattle.std.specs.Ordering.{nat_cmp, eq_by_cmp}
-use Rattle.std.proofs.Common.{◌≡◌, Some, Bool, true, false, cond, List, ap, sym, ◌∙◌, subst, [], ◌∷◌, refl, ℕ, ◌⊎◌, inl, inr, Option, None, map, suc, slice_get, ◌++◌}
+use Rattle.std.proofs.Common.{◌≡◌, Some, Bool, true, false, cond, List, ap, sym, ◌∙◌, subst, []}
+use Rattle.std.proofs.Common.{◌∷◌, refl, ℕ, ◌⊎◌, inl, inr, Option, None, map, suc, slice_get, ◌++◌}
 use Rattle.list_laws.proofs.Lists.{all_append, all_flat_map}
 use Rattle.list_laws.proofs.FirstComings.{all_keep}
-use Rattle.sql_meaning.specs.Paths.{Edge, KeyExpr, form_of, is_union, IndexSeek, RowidRange, RowidEq, Path, TableScan, IndexScan, Union}
-use Rattle.sql_meaning.specs.Terms.{Low, High, Term, part_of, keys_of, TermKind, Equals, Within, IsNothing, MayUse, Carries, LowFrom, HighFrom, FormCarries}
-use Rattle.sql_meaning.specs.Choices.{ColumnTerms, part_or, edge_or, first_that, terms_at, keys_in, is_usable, suits, fits_column, Taken, edge_of, one_or_none, take_bounds, take_equal, seek_terms, number_list, consumed_of, Offer, seek_of, seek_offer, rowid_range, rowid_equal, rowid_offer, paths_of, used_of}
+use Rattle.sql_meaning.specs.Paths.{Edge, KeyExpr, form_of, is_union, IndexSeek, RowidRange}
+use Rattle.sql_meaning.specs.Paths.{RowidEq, Path, TableScan, IndexScan, Union}
+use Rattle.sql_meaning.specs.Terms.{Low, High, Term, part_of, keys_of, TermKind, Equals, Within}
+use Rattle.sql_meaning.specs.Terms.{IsNothing, MayUse, Carries, LowFrom, HighFrom, FormCarries}
+use Rattle.sql_meaning.specs.Choices.{ColumnTerms, part_or, edge_or, first_that, terms_at, keys_in}
+use Rattle.sql_meaning.specs.Choices.{is_usable, suits, fits_column, Taken, edge_of, one_or_none}
+use Rattle.sql_meaning.specs.Choices.{take_bounds, take_equal, seek_terms, number_list, consumed_of}
+use Rattle.sql_meaning.specs.Choices.{Offer, seek_of, seek_offer, rowid_range, rowid_equal}
+use Rattle.sql_meaning.specs.Choices.{rowid_offer, paths_of, used_of}
 use Rattle.sql_meaning.specs.Rows.{Site, AtColumn, AtRowid}
 use Rattle.sql_meaning.specs.Orders.{same_site, same_collation}
 use Rattle.sql_meaning.specs.Expressions.{names, BExprs, Nil, More, flat, Any}
-use Rattle.sql_meaning.specs.Statements.{all_in, has_number, Bound, FitsStatement, item_alias, Conjunct}
-use Rattle.sql_meaning.specs.UsedTerms.{KeysPlaced, AllOf, Consumes, PathCarries, IsTerm, IsBranchTerm, BranchesCarry, AreBranchTerms, AnyOf}
+use Rattle.sql_meaning.specs.Statements.{all_in, has_number, Bound, FitsStatement, item_alias}
+use Rattle.sql_meaning.specs.Statements.{Conjunct}
+use Rattle.sql_meaning.specs.UsedTerms.{KeysPlaced, AllOf, Consumes, PathCarries, IsTerm}
+use Rattle.sql_meaning.specs.UsedTerms.{IsBranchTerm, BranchesCarry, AreBranchTerms, AnyOf}
 use Rattle.sql_meaning.specs.Values.{Collation}
 use Rattle.sql_meaning.specs.Schemas.{IndexColumn, Schema}
 use Rattle.sql_meaning.specs.OrderState.{is_alias, column_site, columns_at}

@@ -1,5 +1,6 @@
 use Rattle.std.specs.Cmp.{signed_Decides}
-use Rattle.std.proofs.Common.{Bool, true, false, ◌&&◌, List, [], ◌∷◌, Option, Some, None, ◌≡◌, refl, ap₂, ap, ℤ, int_eq, ℕ, ◌==◌}
+use Rattle.std.proofs.Common.{Bool, true, false, ◌&&◌, List, [], ◌∷◌, Option, Some, None, ◌≡◌, refl}
+use Rattle.std.proofs.Common.{ap₂, ap, ℤ, int_eq, ℕ, ◌==◌}
 use Rattle.std.proofs.lemmas.Bool.{eq-eqb, eqb-true}
 use Rattle.sql_meaning.specs.Values.{Value, Null, Int, Dec, Text, Blob}
 use Rattle.sql_meaning.specs.Rows.{Row, Assignment}

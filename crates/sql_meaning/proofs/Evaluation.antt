@@ -5,8 +5,11 @@ use Rattle.sql_meaning.specs.Values.{Value}
 use Rattle.sql_meaning.specs.Conversions.{converted_by}
 use Rattle.sql_meaning.specs.Truth.{truth3}
 use Rattle.sql_meaning.specs.Rows.{Assignment, AtRowid, AtColumn, row_value}
-use Rattle.sql_meaning.specs.Expressions.{BExpr, Lit, Param, Column, Rowid, Plus, Collate, Cmp, OneOf, IsNull, Not, All, Any, BExprs, Nil, More, names, all_names}
-use Rattle.sql_meaning.specs.Evaluation.{compare3, not3, negated_if, from_truth, one_of3, all3, any3, ev, evs}
+use Rattle.sql_meaning.specs.Expressions.{BExpr, Lit, Param, Column, Rowid, Plus, Collate, Cmp}
+use Rattle.sql_meaning.specs.Expressions.{OneOf, IsNull, Not, All, Any, BExprs, Nil, More, names}
+use Rattle.sql_meaning.specs.Expressions.{all_names}
+use Rattle.sql_meaning.specs.Evaluation.{compare3, not3, negated_if, from_truth, one_of3, all3}
+use Rattle.sql_meaning.specs.Evaluation.{any3, ev, evs}
 
 -- the value of an expression depends on the rows of the items that it names, and on no other
 mutual

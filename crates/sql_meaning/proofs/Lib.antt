@@ -21,8 +21,12 @@ pub mod ConditionLaws
 pub mod TermLaws
 pub mod PathLaws
 pub mod Blocks
-pub mod Examples
+pub mod ExampleData
+pub mod ExamplesOfConditions
+pub mod ExamplesOfWalks
+pub mod ExamplesOfTerms
+pub mod ExamplesOfOrder
+pub mod ExamplesOfPlans
 pub mod Choices
 pub mod Serving
 pub mod TermLists
-pub mod Instance

@@ -2,15 +2,21 @@ use Rattle.std.specs.List.{AllByRecursion, slice_get}
 use Rattle.std.specs.declared.cmp.Ordering.{Ordering}
 use Rattle.std.specs.declared.cmp.Ordering.TheVariants.{Less, Equal as Ties, Greater}
 use Rattle.std.specs.Ordering.{is_eq}
-use Rattle.std.proofs.Common.{◌≡◌, ℕ, suc, zero, List, [], ◌∷◌, Some, subst, Bool, true, false, cond, ◌||◌, None, refl, ◌∙◌, ap, not, ◌&&◌, sym, ap₂}
+use Rattle.std.proofs.Common.{◌≡◌, ℕ, suc, zero, List, [], ◌∷◌, Some, subst, Bool, true, false}
+use Rattle.std.proofs.Common.{cond, ◌||◌, None, refl, ◌∙◌, ap, not, ◌&&◌, sym, ap₂}
 use Rattle.std.proofs.lemmas.Cmp.{tied_back}
 use Rattle.sql_meaning.specs.Evaluation.{is_true, compares, ev, holds}
-use Rattle.sql_meaning.specs.Values.{Value, Collation, value_cmp, is_null, Affinity, Integer, Real, Numeric, TextAffinity, BlobAffinity}
+use Rattle.sql_meaning.specs.Values.{Value, Collation, value_cmp, is_null, Affinity, Integer, Real}
+use Rattle.sql_meaning.specs.Values.{Numeric, TextAffinity, BlobAffinity}
 use Rattle.sql_meaning.specs.Conversions.{is_numeric, is_text, side_conversion, converted_by}
-use Rattle.sql_meaning.specs.Expressions.{IsEqual, BExpr, Lit, Param, Column, Rowid, Plus, Collate, Cmp, OneOf, IsNull, Not, All, Any, ColumnRef, plain_column, bare_column, IsUnequal, IsBelow, IsAtMost, IsAbove, IsAtLeast, site_expr}
+use Rattle.sql_meaning.specs.Expressions.{IsEqual, BExpr, Lit, Param, Column, Rowid, Plus, Collate}
+use Rattle.sql_meaning.specs.Expressions.{Cmp, OneOf, IsNull, Not, All, Any, ColumnRef}
+use Rattle.sql_meaning.specs.Expressions.{plain_column, bare_column, IsUnequal, IsBelow, IsAtMost}
+use Rattle.sql_meaning.specs.Expressions.{IsAbove, IsAtLeast, site_expr}
 use Rattle.sql_meaning.specs.Schemas.{Schema}
 use Rattle.sql_meaning.specs.Items.{Item, own_column, expr_affinity, FitsExpr}
-use Rattle.sql_meaning.specs.Links.{affinity_class, Links, Linked, link, back, chain, Derives, by_key, by_column}
+use Rattle.sql_meaning.specs.Links.{affinity_class, Links, Linked, link, back, chain, Derives}
+use Rattle.sql_meaning.specs.Links.{by_key, by_column}
 use Rattle.sql_meaning.specs.Rows.{Assignment, cell, Site, AtRowid, AtColumn}
 use Rattle.sql_meaning.specs.Paths.{key_value}
 use Rattle.sql_meaning.specs.Terms.{Equals, Term, term_holds}

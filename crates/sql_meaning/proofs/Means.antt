@@ -1,5 +1,7 @@
 use Rattle.std.specs.List.{slice_get, AllByRecursion}
-use Rattle.std.proofs.Common.{◌≡◌, ℕ, Bool, true, false, cond, not, List, refl, ap, sym, ◌∙◌, [], ◌∷◌, ◌||◌, ◌==◌, ◌++◌, Option, Some, None, inl, inr, ◌&&◌, zero-add, ◌≢◌, suc, zero, subst, ◌+◌, ◌≤◌, arith, ◌<◌, length}
+use Rattle.std.proofs.Common.{◌≡◌, ℕ, Bool, true, false, cond, not, List, refl, ap, sym, ◌∙◌, []}
+use Rattle.std.proofs.Common.{◌∷◌, ◌||◌, ◌==◌, ◌++◌, Option, Some, None, inl, inr, ◌&&◌, zero-add}
+use Rattle.std.proofs.Common.{◌≢◌, suc, zero, subst, ◌+◌, ◌≤◌, arith, ◌<◌, length}
 use Rattle.std.proofs.lemmas.Bool.{eqb-true, eq-eqb}
 use Rattle.std.proofs.lemmas.List.{length-replicate}
 use Rattle.std.proofs.lemmas.List.Elements.{filter_agree}
@@ -10,7 +12,9 @@ use Rattle.list_laws.proofs.Nests.{join_law, distinct_reorders}
 use Rattle.sql_meaning.specs.Values.{Value}
 use Rattle.sql_meaning.specs.Rows.{Assignment, Row}
 use Rattle.sql_meaning.specs.Schemas.{Schema, Database}
-use Rattle.sql_meaning.specs.Statements.{Bound, is_left, owned_by, is_common, chosen_hold, has_number, no_owner, Conjunct, all_in, is_empty, numbers_from, no_rows, choices, statement_rows}
+use Rattle.sql_meaning.specs.Statements.{Bound, is_left, owned_by, is_common, chosen_hold}
+use Rattle.sql_meaning.specs.Statements.{has_number, no_owner, Conjunct, all_in, is_empty}
+use Rattle.sql_meaning.specs.Statements.{numbers_from, no_rows, choices, statement_rows}
 use Rattle.sql_meaning.specs.Plans.{Loop, steps_of, consumed_by, Plan, always, plan_walks}
 use Rattle.sql_meaning.specs.UsedTerms.{Used, used_holds, Consumes, IsTerm, UsedComes, AllOf, AnyOf}
 use Rattle.sql_meaning.specs.Offers.{IsOffer, AreOffers, loop_items, FitsOffers}
@@ -19,7 +23,9 @@ use Rattle.sql_meaning.specs.Evaluation.{holds}
 use Rattle.sql_meaning.specs.Expressions.{names}
 use Rattle.sql_meaning.proofs.Databases.{IsDatabase}
 use Rattle.sql_meaning.proofs.Offers.{and_left, used_from, both_true, consumed_holds, and_right}
-use Rattle.sql_meaning.proofs.Plans.{chosen_weaken, test_from, uses, has_all, same_holds, or_cases, test_at, chosen_from, Ours, nested_used, steps_items, are_steps}
+use Rattle.sql_meaning.proofs.Plans.{chosen_weaken, test_from, uses, has_all, same_holds, or_cases}
+use Rattle.sql_meaning.proofs.Plans.{test_at, chosen_from, Ours, nested_used, steps_items}
+use Rattle.sql_meaning.proofs.Plans.{are_steps}
 use Rattle.sql_meaning.proofs.Terms.{some_is}
 use Rattle.sql_meaning.proofs.Links.{all_at}
 

@@ -1,5 +1,7 @@
 use Rattle.std.specs.List.{AllByRecursion, filter, slice_get}
-use Rattle.std.proofs.Common.{◌≡◌, Bool, true, false, ◌&&◌, refl, ℕ, ◌||◌, ◌==◌, List, ◌∷◌, None, get_or, [], ap, ap₂, map, cond, ◌∙◌, ◌≢◌, Option, ◌<◌, Some, length, get_or-set_same, sym, reverse, ◌++◌, not, suc, zero, subst, inl, inr}
+use Rattle.std.proofs.Common.{◌≡◌, Bool, true, false, ◌&&◌, refl, ℕ, ◌||◌, ◌==◌, List, ◌∷◌, None}
+use Rattle.std.proofs.Common.{get_or, [], ap, ap₂, map, cond, ◌∙◌, ◌≢◌, Option, ◌<◌, Some, length}
+use Rattle.std.proofs.Common.{get_or-set_same, sym, reverse, ◌++◌, not, suc, zero, subst, inl, inr}
 use Rattle.std.proofs.lemmas.Bool.{eqb-true}
 use Rattle.std.proofs.lemmas.List.Sorted.{IsPermutation-reverse}
 use Rattle.list_laws.specs.Nest.{Env, Agree, Looks, place}
@@ -8,15 +10,25 @@ use Rattle.list_laws.proofs.Lists.{all_map, all_append}
 use Rattle.list_laws.proofs.Nests.{place_other}
 use Rattle.list_laws.proofs.Tallies.{SameTally-refl, SameTally-sym, SameTally-map}
 use Rattle.list_laws.proofs.Permutations.{SameTally-from_permutation}
-use Rattle.sql_meaning.specs.Statements.{has_number, all_in, Conjunct, chosen_hold, exprs_of, Bound, FitsStatement}
+use Rattle.sql_meaning.specs.Statements.{has_number, all_in, Conjunct, chosen_hold, exprs_of, Bound}
+use Rattle.sql_meaning.specs.Statements.{FitsStatement}
 use Rattle.sql_meaning.specs.Values.{Value, Collation}
 use Rattle.sql_meaning.specs.Conversions.{converted_by}
 use Rattle.sql_meaning.specs.Rows.{Assignment, row_value, cell, Row, Site, site_value}
-use Rattle.sql_meaning.specs.Expressions.{names, IsEqual, IsBelow, IsAtMost, IsAbove, IsAtLeast, BExpr, Lit, Param, Column, Rowid, Plus, Collate, Cmp, OneOf, IsNull, Not, All, Any, BExprs, Nil, More, flat, flat_all}
-use Rattle.sql_meaning.specs.Paths.{KeyExpr, key_value, Path, form_of, form_holds, TableScan, RowidEq, RowidRange, IndexScan, IndexSeek, Union, carried, is_union, Paths, Nowhere, Then, any_carried, walk}
-use Rattle.sql_meaning.specs.Evaluation.{compares, equals_any, holds, and3, is_true, all3, evs, any3}
-use Rattle.sql_meaning.specs.Terms.{TermKind, Equals, Within, IsNothing, Low, High, keys_of, kind_holds, Term, term_holds, terms_true, FormCarries}
-use Rattle.sql_meaning.specs.UsedTerms.{KeysPlaced, all_terms, any_terms, Used, AllOf, AnyOf, used_holds, UsedPlaced, BranchesCarry, PathCarries, IsTerm, IsBranchTerm, AreBranchTerms, IsOrTerm, UsedComes, Consumes}
+use Rattle.sql_meaning.specs.Expressions.{names, IsEqual, IsBelow, IsAtMost, IsAbove, IsAtLeast}
+use Rattle.sql_meaning.specs.Expressions.{BExpr, Lit, Param, Column, Rowid, Plus, Collate, Cmp}
+use Rattle.sql_meaning.specs.Expressions.{OneOf, IsNull, Not, All, Any, BExprs, Nil, More, flat}
+use Rattle.sql_meaning.specs.Expressions.{flat_all}
+use Rattle.sql_meaning.specs.Paths.{KeyExpr, key_value, Path, form_of, form_holds, TableScan}
+use Rattle.sql_meaning.specs.Paths.{RowidEq, RowidRange, IndexScan, IndexSeek, Union, carried}
+use Rattle.sql_meaning.specs.Paths.{is_union, Paths, Nowhere, Then, any_carried, walk}
+use Rattle.sql_meaning.specs.Evaluation.{compares, equals_any, holds, and3, is_true, all3, evs}
+use Rattle.sql_meaning.specs.Evaluation.{any3}
+use Rattle.sql_meaning.specs.Terms.{TermKind, Equals, Within, IsNothing, Low, High, keys_of}
+use Rattle.sql_meaning.specs.Terms.{kind_holds, Term, term_holds, terms_true, FormCarries}
+use Rattle.sql_meaning.specs.UsedTerms.{KeysPlaced, all_terms, any_terms, Used, AllOf, AnyOf}
+use Rattle.sql_meaning.specs.UsedTerms.{used_holds, UsedPlaced, BranchesCarry, PathCarries, IsTerm}
+use Rattle.sql_meaning.specs.UsedTerms.{IsBranchTerm, AreBranchTerms, IsOrTerm, UsedComes, Consumes}
 use Rattle.sql_meaning.specs.Schemas.{Schema, AliasHolds, RisingRows}
 use Rattle.sql_meaning.specs.Plans.{directed_walk}
 use Rattle.sql_meaning.specs.Items.{Item, FitsExpr, FitsExprs}
@@ -372,7 +384,8 @@ fits_case : (schema : Schema) (items : List Item) (chosen : Conjunct → Bool) (
 fits_case schema items chosen c cs true f h = (f, h)
 fits_case schema items chosen c cs false f h = h
 
-pub fits_filter : (schema : Schema) (items : List Item) (chosen : Conjunct → Bool) (cs : List Conjunct)
+pub fits_filter : (schema : Schema) (items : List Item) (chosen : Conjunct → Bool)
+    (cs : List Conjunct)
     → AllByRecursion (λ c. FitsExpr schema items c.expr) cs
     → AllByRecursion (FitsExpr schema items) (exprs_of (filter chosen cs))
 fits_filter schema items chosen [] h = tt

@@ -2,14 +2,17 @@ use Rattle.std.specs.List.{AllByRecursion}
 use Rattle.std.specs.Ordering.{ordering_then, is_le, then_cmp}
 use Rattle.std.specs.declared.cmp.Ordering.TheVariants.{Equal as Ties, Less}
 use Rattle.std.specs.declared.cmp.Ordering.{Ordering}
-use Rattle.std.proofs.Common.{◌≡◌, ℕ, Some, List, None, ap, sym, ◌∙◌, get_or, [], ◌∷◌, refl, ap₂, Bool, true, false, cond, Option, ◌≢◌, map, ◌==◌, ◌<◌, length, not, ◌&&◌, ◌++◌, subst}
+use Rattle.std.proofs.Common.{◌≡◌, ℕ, Some, List, None, ap, sym, ◌∙◌, get_or, [], ◌∷◌, refl, ap₂}
+use Rattle.std.proofs.Common.{Bool, true, false, cond, Option, ◌≢◌, map, ◌==◌, ◌<◌, length, not}
+use Rattle.std.proofs.Common.{◌&&◌, ◌++◌, subst}
 use Rattle.std.proofs.lemmas.Cmp.{tied_itself}
 use Rattle.std.proofs.lemmas.Bool.{eqb-true}
 use Rattle.list_laws.specs.Nest.{place, Step, nested, step_items}
 use Rattle.list_laws.specs.Order.{Ascends, RisesStrictly}
 use Rattle.list_laws.proofs.Lists.{all_map, all_always, all_flat_map, all_both}
 use Rattle.list_laws.proofs.Nests.{Differs, place_other}
-use Rattle.list_laws.proofs.NestOrders.{Crosses, Ascends-flat_map, pairs_from, tied_all, pairs_strictly, tied_block, ascends_cond, less_then}
+use Rattle.list_laws.proofs.NestOrders.{Crosses, Ascends-flat_map, pairs_from, tied_all}
+use Rattle.list_laws.proofs.NestOrders.{pairs_strictly, tied_block, ascends_cond, less_then}
 use Rattle.list_laws.proofs.Orders.{Ascends-filter}
 use Rattle.sql_meaning.specs.Rows.{Site, Assignment, row_value, Row, site_value}
 use Rattle.sql_meaning.specs.Expressions.{bare_column, ColumnRef}
@@ -18,17 +21,24 @@ use Rattle.sql_meaning.specs.Values.{Value, value_cmp}
 use Rattle.sql_meaning.specs.Evaluation.{ev}
 use Rattle.sql_meaning.specs.IndexLists.{directed}
 use Rattle.sql_meaning.specs.Orders.{by_keys, key_cmp, same_flag, same_collation, same_site}
-use Rattle.sql_meaning.specs.Paths.{walk, Path, carried, is_union, TableScan, RowidEq, RowidRange, IndexScan, IndexSeek, Union}
+use Rattle.sql_meaning.specs.Paths.{walk, Path, carried, is_union, TableScan, RowidEq, RowidRange}
+use Rattle.sql_meaning.specs.Paths.{IndexScan, IndexSeek, Union}
 use Rattle.sql_meaning.specs.Plans.{missing_if, directed_walk, Loop, loop_walk}
-use Rattle.sql_meaning.specs.OrderState.{test_column, on_item, Position, key_matches, needs_backward, positions, path_held, key_held, is_single, drop_held, lost_by, backward, Loses, Leaves, pass, loop_passes}
+use Rattle.sql_meaning.specs.OrderState.{test_column, on_item, Position, key_matches}
+use Rattle.sql_meaning.specs.OrderState.{needs_backward, positions, path_held, key_held, is_single}
+use Rattle.sql_meaning.specs.OrderState.{drop_held, lost_by, backward, Loses, Leaves, pass}
+use Rattle.sql_meaning.specs.OrderState.{loop_passes}
 use Rattle.sql_meaning.specs.Schemas.{Schema, AliasHolds, RisingRows, Database}
 use Rattle.sql_meaning.specs.Conjuncts.{level_test}
 use Rattle.sql_meaning.proofs.Databases.{IsDatabase}
 use Rattle.sql_meaning.proofs.Terms.{bare_is}
 use Rattle.sql_meaning.proofs.Order.{value_cmp_total}
-use Rattle.sql_meaning.proofs.Rises.{directed_tie, pos_cmp, collation_is, site_is, path_tied, path_positions_tied, walk_carried, all_reverse, by_positions, walk_rises, rises_filter}
+use Rattle.sql_meaning.proofs.Rises.{directed_tie, pos_cmp, collation_is, site_is, path_tied}
+use Rattle.sql_meaning.proofs.Rises.{path_positions_tied, walk_carried, all_reverse, by_positions}
+use Rattle.sql_meaning.proofs.Rises.{walk_rises, rises_filter}
 use Rattle.sql_meaning.proofs.Offers.{and_left, and_right, cell_placed}
-use Rattle.sql_meaning.proofs.Passes.{AreTied, IsPassed, IsFront, held_front, IsDirection, leaves_keys, pass_is}
+use Rattle.sql_meaning.proofs.Passes.{AreTied, IsPassed, IsFront, held_front, IsDirection}
+use Rattle.sql_meaning.proofs.Passes.{leaves_keys, pass_is}
 use Rattle.sql_meaning.proofs.Paths.{all_walk}
 
 -- the key is a column of the item

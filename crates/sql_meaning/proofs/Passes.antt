@@ -2,9 +2,11 @@ use Rattle.std.specs.List.{AllByRecursion}
 use Rattle.std.specs.declared.cmp.Ordering.{Ordering}
 use Rattle.std.specs.declared.cmp.Ordering.TheVariants.{Equal, Less, Greater}
 use Rattle.std.specs.Ordering.{is_le, ordering_then}
-use Rattle.std.proofs.Common.{◌≡◌, ℕ, Bool, true, List, ◌≢◌, [], ◌++◌, false, cond, ◌∷◌, refl, ap, Option, Some, None, sym, ◌∙◌, append_assoc, subst}
+use Rattle.std.proofs.Common.{◌≡◌, ℕ, Bool, true, List, ◌≢◌, [], ◌++◌, false, cond, ◌∷◌, refl, ap}
+use Rattle.std.proofs.Common.{Option, Some, None, sym, ◌∙◌, append_assoc, subst}
 use Rattle.sql_meaning.specs.Statements.{SortKey}
-use Rattle.sql_meaning.specs.OrderState.{Position, key_matches, needs_backward, drop_held, Leaves, Loses, with_direction, at_position, pass}
+use Rattle.sql_meaning.specs.OrderState.{Position, key_matches, needs_backward, drop_held, Leaves}
+use Rattle.sql_meaning.specs.OrderState.{Loses, with_direction, at_position, pass}
 use Rattle.sql_meaning.specs.Orders.{lex_of, same_flag}
 
 -- what is known of two rows of a walk: they tie by what is held, and a key that matches a position,

@@ -1,7 +1,8 @@
 -- The laws of paths.
 use Rattle.std.specs.List.{AllByRecursion, filter}
 use Rattle.std.specs.List.Sorted.{IsPermutation}
-use Rattle.std.proofs.Common.{◌≡◌, ℕ, false, List, Option, ◌∙◌, ◌<◌, true, Some, sym, subst, length, slice_get, ◌∷◌, refl, ap}
+use Rattle.std.proofs.Common.{◌≡◌, ℕ, false, List, Option, ◌∙◌, ◌<◌, true, Some, sym, subst, length}
+use Rattle.std.proofs.Common.{slice_get, ◌∷◌, refl, ap}
 use Rattle.list_laws.specs.Nest.{place, Agree}
 use Rattle.list_laws.specs.Tally.{SameTally, tally}
 use Rattle.list_laws.specs.FirstComing.{has, IsOnce}
@@ -12,15 +13,22 @@ use Rattle.list_laws.proofs.Orders.{SameTally-sort_by, Ascends-sort_by}
 use Rattle.sql_meaning.specs.Values.{Value}
 use Rattle.sql_meaning.specs.Rows.{Row, Assignment}
 use Rattle.sql_meaning.specs.Schemas.{RisingRows, Schema, AliasHolds}
-use Rattle.sql_meaning.specs.Paths.{Path, form_of, path_list, walk, is_union, TableScan, carried, Union, Paths, same_rowid, RowidEq, RowidRange, IndexScan, IndexSeek}
+use Rattle.sql_meaning.specs.Paths.{Path, form_of, path_list, walk, is_union, TableScan, carried}
+use Rattle.sql_meaning.specs.Paths.{Union, Paths, same_rowid, RowidEq, RowidRange, IndexScan}
+use Rattle.sql_meaning.specs.Paths.{IndexSeek}
 use Rattle.sql_meaning.specs.Terms.{Term, terms_true, FormCarries}
 use Rattle.sql_meaning.specs.Evaluation.{holds}
-use Rattle.sql_meaning.specs.Statements.{Conjunct, Bound, has_number, FitsStatement, item_alias, item_rows}
-use Rattle.sql_meaning.specs.UsedTerms.{AllOf, used_holds, KeysPlaced, IsTerm, Consumes, AnyOf, BranchesCarry, UsedPlaced, IsOrTerm, PathCarries}
+use Rattle.sql_meaning.specs.Statements.{Conjunct, Bound, has_number, FitsStatement, item_alias}
+use Rattle.sql_meaning.specs.Statements.{item_rows}
+use Rattle.sql_meaning.specs.UsedTerms.{AllOf, used_holds, KeysPlaced, IsTerm, Consumes, AnyOf}
+use Rattle.sql_meaning.specs.UsedTerms.{BranchesCarry, UsedPlaced, IsOrTerm, PathCarries}
 use Rattle.sql_meaning.specs.IndexLists.{index_entries, entry_cmp}
-use Rattle.sql_meaning.specs.PathLaws.{IndexListsAreSorted, WalksAreFilters, ConsumedConjunctsHold, UnionsHaveEachRowOnce, UnionsMissNoRow}
-use Rattle.sql_meaning.proofs.Paths.{walk_is, all_list, all_walk, walk_same, same_rowid_equiv, entry_cmp_total, rows_once}
-use Rattle.sql_meaning.proofs.Offers.{filter_on, plain_true, terms_placed, consumed_holds, carried_true, used_looks, or_holds}
+use Rattle.sql_meaning.specs.PathLaws.{IndexListsAreSorted, WalksAreFilters, ConsumedConjunctsHold}
+use Rattle.sql_meaning.specs.PathLaws.{UnionsHaveEachRowOnce, UnionsMissNoRow}
+use Rattle.sql_meaning.proofs.Paths.{walk_is, all_list, all_walk, walk_same, same_rowid_equiv}
+use Rattle.sql_meaning.proofs.Paths.{entry_cmp_total, rows_once}
+use Rattle.sql_meaning.proofs.Offers.{filter_on, plain_true, terms_placed, consumed_holds}
+use Rattle.sql_meaning.proofs.Offers.{carried_true, used_looks, or_holds}
 use Rattle.sql_meaning.proofs.Rises.{walk_carried}
 use Rattle.sql_meaning.proofs.Databases.{database_for}
 use Rattle.sql_meaning.proofs.Equals.{row_eq, row_true, row_itself}

@@ -3,7 +3,8 @@ use Rattle.std.specs.declared.cmp.Ordering.{Ordering}
 use Rattle.std.specs.declared.cmp.Ordering.TheVariants.{Less, Equal}
 use Rattle.std.specs.Ordering.{ordering_then, int_cmp, is_le, is_eq}
 use Rattle.std.specs.List.{filter, AllByRecursion, flat_map}
-use Rattle.std.proofs.Common.{List, [], ◌∷◌, ◌≡◌, refl, ◌∙◌, ◌*ℤ◌, pos, ℤ, ap, map, false, sym, subst, ◌++◌, ◌||◌}
+use Rattle.std.proofs.Common.{List, [], ◌∷◌, ◌≡◌, refl, ◌∙◌, ◌*ℤ◌, pos, ℤ, ap, map, false, sym}
+use Rattle.std.proofs.Common.{subst, ◌++◌, ◌||◌}
 use Rattle.std.proofs.lemmas.Cmp.{on_total, then_total, int_cmp_total, eq_by_cmp_equiv}
 use Rattle.std.proofs.lemmas.List.Elements.{filter_agree}
 use Rattle.list_laws.specs.Order.{Ascends, sort_by}
@@ -13,12 +14,16 @@ use Rattle.list_laws.proofs.Lists.{all_map, all_filter, all_append}
 use Rattle.list_laws.proofs.Orders.{Ascends-sort_by, SameTally-sort_by, all_insert}
 use Rattle.list_laws.proofs.Tallies.{SameTally-refl, SameTally-filter}
 use Rattle.list_laws.proofs.FirstComings.{all_keep}
-use Rattle.list_laws.proofs.Unions.{AreApart, once_from_apart, Branch, any_used, AreBranches, union_same}
+use Rattle.list_laws.proofs.Unions.{AreApart, once_from_apart, Branch, any_used, AreBranches}
+use Rattle.list_laws.proofs.Unions.{union_same}
 use Rattle.sql_meaning.specs.Rows.{site_value, Row, Assignment}
 use Rattle.sql_meaning.specs.IndexLists.{SortColumn, entry_cmp, by_rowid, sort_columns}
 use Rattle.sql_meaning.specs.Values.{Int, Binary, value_cmp, Value}
 use Rattle.sql_meaning.specs.Schemas.{RisingRows, Schema}
-use Rattle.sql_meaning.specs.Paths.{form_walk, form_holds, SeekForm, part_value, end_value, Path, TableScan, RowidEq, RowidRange, IndexScan, IndexSeek, Union, form_of, path_list, walk, carried, is_union, Paths, Nowhere, Then, same_rowid, walks, any_carried}
+use Rattle.sql_meaning.specs.Paths.{form_walk, form_holds, SeekForm, part_value, end_value, Path}
+use Rattle.sql_meaning.specs.Paths.{TableScan, RowidEq, RowidRange, IndexScan, IndexSeek, Union}
+use Rattle.sql_meaning.specs.Paths.{form_of, path_list, walk, carried, is_union, Paths, Nowhere}
+use Rattle.sql_meaning.specs.Paths.{Then, same_rowid, walks, any_carried}
 use Rattle.sql_meaning.proofs.Seeks.{spot_cmp_total, seek_is}
 use Rattle.sql_meaning.proofs.Scaled.{scaled_cmp}
 

@@ -1,5 +1,7 @@
 use Rattle.std.specs.List.{AllByRecursion, slice_get, filter}
-use Rattle.std.proofs.Common.{◌≡◌, ℕ, Bool, cond, List, [], ◌∷◌, refl, ap, true, false, not, ◌||◌, ◌+◌, ◌&&◌, ap₂, Option, Some, None, suc, zero, ◌∙◌, subst, arith, sym, ◌==◌, zero-add, ◌<◌, map, length}
+use Rattle.std.proofs.Common.{◌≡◌, ℕ, Bool, cond, List, [], ◌∷◌, refl, ap, true, false, not, ◌||◌}
+use Rattle.std.proofs.Common.{◌+◌, ◌&&◌, ap₂, Option, Some, None, suc, zero, ◌∙◌, subst, arith, sym}
+use Rattle.std.proofs.Common.{◌==◌, zero-add, ◌<◌, map, length}
 use Rattle.std.proofs.lemmas.Bool.{eqb-true}
 use Rattle.std.proofs.lemmas.List.Elements.{filter_agree}
 use Rattle.list_laws.specs.Nest.{place, nested, step_items, Agree, Looks, AreSteps}
@@ -10,7 +12,9 @@ use Rattle.sql_meaning.specs.Values.{Value}
 use Rattle.sql_meaning.specs.Truth.{truth3}
 use Rattle.sql_meaning.specs.Rows.{Row, Assignment}
 use Rattle.sql_meaning.specs.Schemas.{Schema, Database}
-use Rattle.sql_meaning.specs.Statements.{Bound, is_common, is_empty, has_number, Conjunct, no_owner, chosen_hold, is_left, owned_by, OwnersAreLeft, or_missing, item_rows, item_alias, choices}
+use Rattle.sql_meaning.specs.Statements.{Bound, is_common, is_empty, has_number, Conjunct, no_owner}
+use Rattle.sql_meaning.specs.Statements.{chosen_hold, is_left, owned_by, OwnersAreLeft, or_missing}
+use Rattle.sql_meaning.specs.Statements.{item_rows, item_alias, choices}
 use Rattle.sql_meaning.specs.Plans.{Loop, loop_walk, steps_of, directed_walk, missing_if}
 use Rattle.sql_meaning.specs.Conjuncts.{level_test, common_first, first_at, first_by}
 use Rattle.sql_meaning.specs.Offers.{loop_items, IsOffer, AreOffers}
@@ -19,7 +23,8 @@ use Rattle.sql_meaning.specs.Evaluation.{is_true, holds}
 use Rattle.sql_meaning.specs.UsedTerms.{Used, used_holds, Consumes, UsedPlaced}
 use Rattle.sql_meaning.specs.Paths.{walk}
 use Rattle.sql_meaning.proofs.Databases.{IsDatabase}
-use Rattle.sql_meaning.proofs.Offers.{and_left, and_right, agree_in, all_in_all, both_true, unless, rest_of, consumed_holds, used_from, used_looks, walk_used}
+use Rattle.sql_meaning.proofs.Offers.{and_left, and_right, agree_in, all_in_all, both_true, unless}
+use Rattle.sql_meaning.proofs.Offers.{rest_of, consumed_holds, used_from, used_looks, walk_used}
 use Rattle.sql_meaning.proofs.Evaluation.{ev_same}
 use Rattle.sql_meaning.proofs.Terms.{some_is}
 use Rattle.sql_meaning.proofs.Links.{all_at}

@@ -3,7 +3,9 @@ use Rattle.std.specs.Ordering.{ordering_then, int_cmp, is_eq, ordering_reverse, 
 use Rattle.std.specs.declared.cmp.Ordering.TheVariants.{Less, Equal as Ties, Greater}
 use Rattle.std.specs.List.{AllByRecursion, filter, slice_get}
 use Rattle.std.specs.Cmp.{IsEquivalence}
-use Rattle.std.proofs.Common.{Bool, cond, not, List, ◌≡◌, refl, ℤ, pos, ◌*ℤ◌, ◌∙◌, true, false, ap, ℕ, Option, Some, None, sym, [], ◌∷◌, ap₂, map, subst, ◌++◌, reverse, ◌||◌}
+use Rattle.std.proofs.Common.{Bool, cond, not, List, ◌≡◌, refl, ℤ, pos, ◌*ℤ◌, ◌∙◌, true, false, ap}
+use Rattle.std.proofs.Common.{ℕ, Option, Some, None, sym, [], ◌∷◌, ap₂, map, subst, ◌++◌, reverse}
+use Rattle.std.proofs.Common.{◌||◌}
 use Rattle.std.proofs.lemmas.Cmp.{int_cmp_total, on_total, eq_by_cmp_equiv, tied_back}
 use Rattle.std.proofs.lemmas.Bool.{eqb-true}
 use Rattle.std.proofs.lemmas.Grind.{reverse_onto}
@@ -11,13 +13,19 @@ use Rattle.list_laws.specs.Order.{insert_by, sort_by, Ascends, RisesStrictly}
 use Rattle.list_laws.proofs.Orders.{all_insert, Ascends-sort_by}
 use Rattle.list_laws.proofs.Unions.{AreApart}
 use Rattle.list_laws.proofs.Lists.{all_both, all_map, all_filter, all_append, filter_all}
-use Rattle.sql_meaning.specs.Values.{value_cmp, Int, Collation, Binary, Value, Null, Dec, Text, Blob, is_null, Nocase, Rtrim}
+use Rattle.sql_meaning.specs.Values.{value_cmp, Int, Collation, Binary, Value, Null, Dec, Text}
+use Rattle.sql_meaning.specs.Values.{Blob, is_null, Nocase, Rtrim}
 use Rattle.sql_meaning.specs.Rows.{Row, site_value, AtColumn, AtRowid, Assignment, Site}
-use Rattle.sql_meaning.specs.IndexLists.{directed, SortColumn, entry_cmp, index_sort_columns, index_entries, sort_columns}
-use Rattle.sql_meaning.specs.OrderState.{Position, is_alias, first_held, rest_parts, index_positions, columns_at, is_one_key, positions, column_site, part_held, path_held}
+use Rattle.sql_meaning.specs.IndexLists.{directed, SortColumn, entry_cmp, index_sort_columns}
+use Rattle.sql_meaning.specs.IndexLists.{index_entries, sort_columns}
+use Rattle.sql_meaning.specs.OrderState.{Position, is_alias, first_held, rest_parts}
+use Rattle.sql_meaning.specs.OrderState.{index_positions, columns_at, is_one_key, positions}
+use Rattle.sql_meaning.specs.OrderState.{column_site, part_held, path_held}
 use Rattle.sql_meaning.specs.Orders.{lex_of, same_collation, same_site}
 use Rattle.sql_meaning.specs.Schemas.{IndexColumn, AliasHolds, RisingRows, Index, Schema}
-use Rattle.sql_meaning.specs.Paths.{EqPart, same_rowid, IndexScan, Path, TableScan, RowidEq, RowidRange, IndexSeek, Union, path_list, is_union, walk, carried, OneKey, ManyKeys, NullKey, part_value, end_value}
+use Rattle.sql_meaning.specs.Paths.{EqPart, same_rowid, IndexScan, Path, TableScan, RowidEq}
+use Rattle.sql_meaning.specs.Paths.{RowidRange, IndexSeek, Union, path_list, is_union, walk}
+use Rattle.sql_meaning.specs.Paths.{carried, OneKey, ManyKeys, NullKey, part_value, end_value}
 use Rattle.sql_meaning.specs.Plans.{directed_walk}
 use Rattle.sql_meaning.specs.Walks.{part_holds, End, parts_hold}
 use Rattle.sql_meaning.proofs.Scaled.{scaled_cmp}
@@ -204,7 +212,8 @@ index_rises schema alias index eqs rows rising aliased =
     rises_from alias (columns_at (slice_get schema.indexes index)) eqs
     (index_entries (sort_columns schema index) rows)
     (subst
-    (λ (ss : List SortColumn). Ascends (entry_cmp ss) (index_entries (sort_columns schema index) rows))
+    (λ (ss : List SortColumn). Ascends (entry_cmp ss)
+    (index_entries (sort_columns schema index) rows))
     (spots_are (slice_get schema.indexes index))
     (Ascends-sort_by (entry_cmp_total (sort_columns schema index)) rows))
     (apart_sort same_rowid_equiv (entry_cmp (sort_columns schema index)) rows

@@ -3,22 +3,27 @@ use Rattle.std.specs.Cmp.{IsTotalOrder}
 use Rattle.std.specs.declared.cmp.Ordering.TheVariants.{Less, Equal as Ties, Greater}
 use Rattle.std.specs.Ordering.{is_eq, is_le, ordering_reverse, is_gt, is_lt, is_ge, on}
 use Rattle.std.specs.List.{filter, flat_map}
-use Rattle.std.proofs.Common.{Bool, true, false, ◌≡◌, refl, cond, Some, None, ap, ◌||◌, List, [], ◌∷◌, ◌∙◌, ◌&&◌, not, arith, sym, Option}
+use Rattle.std.proofs.Common.{Bool, true, false, ◌≡◌, refl, cond, Some, None, ap, ◌||◌, List, []}
+use Rattle.std.proofs.Common.{◌∷◌, ◌∙◌, ◌&&◌, not, arith, sym, Option}
 use Rattle.std.proofs.lemmas.Cmp.{back_total}
 use Rattle.std.proofs.lemmas.List.Elements.{filter_agree}
 use Rattle.list_laws.specs.Order.{Ascends, sort_by}
 use Rattle.list_laws.specs.FirstComing.{ties_any}
-use Rattle.list_laws.proofs.Orders.{not_below_up, above_up, Rises-from_order, stretch_at, Ascends-at, Ascends-first, Ascends-sort_by}
+use Rattle.list_laws.proofs.Orders.{not_below_up, above_up, Rises-from_order, stretch_at}
+use Rattle.list_laws.proofs.Orders.{Ascends-at, Ascends-first, Ascends-sort_by}
 use Rattle.list_laws.proofs.Stretches.{stretch_is}
 use Rattle.list_laws.proofs.Lists.{filter-filter, filter-flat_map, flat_map_same}
 use Rattle.list_laws.proofs.KeyStretches.{many_is}
 use Rattle.list_laws.proofs.FirstComings.{RisesStrictly-keep_first, ties_walked}
-use Rattle.sql_meaning.specs.Values.{Value, Null, Int, Dec, Text, Blob, Collation, value_cmp, is_null}
+use Rattle.sql_meaning.specs.Values.{Value, Null, Int, Dec, Text, Blob, Collation, value_cmp}
+use Rattle.sql_meaning.specs.Values.{is_null}
 use Rattle.sql_meaning.specs.IndexLists.{directed, SortColumn, column_cmp, entry_cmp}
 use Rattle.sql_meaning.specs.Evaluation.{is_true, compares, op_holds, equals_any}
 use Rattle.sql_meaning.specs.Expressions.{IsEqual, Op, IsAbove, IsAtLeast, IsBelow, IsAtMost}
 use Rattle.sql_meaning.specs.Rows.{Row, Site, site_value}
-use Rattle.sql_meaning.specs.Walks.{End, is_below, is_above, range_walk, bounds_walk, low_holds, high_holds, key_stretch, walked_keys, Part, One, Many, NullPart, seek, parts_hold}
+use Rattle.sql_meaning.specs.Walks.{End, is_below, is_above, range_walk, bounds_walk, low_holds}
+use Rattle.sql_meaning.specs.Walks.{high_holds, key_stretch, walked_keys, Part, One, Many, NullPart}
+use Rattle.sql_meaning.specs.Walks.{seek, parts_hold}
 use Rattle.sql_meaning.proofs.Order.{value_cmp_total}
 
 pub directed_total : (falling : Bool) {cmp : Value → Value → Ordering} → IsTotalOrder cmp

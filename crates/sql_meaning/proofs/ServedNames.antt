@@ -1,14 +1,19 @@
 -- Which items a conjunct names that a path consumes: its own item, and items that are placed.
 use Rattle.std.specs.List.{AllByRecursion}
-use Rattle.std.proofs.Common.{◌≡◌, ◌≢◌, ℕ, Bool, true, false, ◌&&◌, ◌||◌, ◌==◌, List, [], ◌∷◌, ◌++◌, Option, Some, None, refl, ap, sym, ◌∙◌, subst, slice_get, inl, inr}
+use Rattle.std.proofs.Common.{◌≡◌, ◌≢◌, ℕ, Bool, true, false, ◌&&◌, ◌||◌, ◌==◌, List, [], ◌∷◌, ◌++◌}
+use Rattle.std.proofs.Common.{Option, Some, None, refl, ap, sym, ◌∙◌, subst, slice_get, inl, inr}
 use Rattle.std.proofs.lemmas.Bool.{eq-eqb}
 use Rattle.list_laws.proofs.Lists.{all_append}
 use Rattle.sql_meaning.specs.Values.{Collation, Affinity}
 use Rattle.sql_meaning.specs.Rows.{Site}
-use Rattle.sql_meaning.specs.Expressions.{Op, IsEqual, IsUnequal, IsBelow, IsAtMost, IsAbove, IsAtLeast, BExpr, Column, Rowid, Collate, Cmp, OneOf, IsNull, Any, BExprs, Nil, More, names, all_names, ColumnRef, plain_column, bare_column}
+use Rattle.sql_meaning.specs.Expressions.{Op, IsEqual, IsUnequal, IsBelow, IsAtMost, IsAbove}
+use Rattle.sql_meaning.specs.Expressions.{IsAtLeast, BExpr, Column, Rowid, Collate, Cmp, OneOf}
+use Rattle.sql_meaning.specs.Expressions.{IsNull, Any, BExprs, Nil, More, names, all_names}
+use Rattle.sql_meaning.specs.Expressions.{ColumnRef, plain_column, bare_column}
 use Rattle.sql_meaning.specs.Schemas.{Schema}
 use Rattle.sql_meaning.specs.Paths.{KeyExpr}
-use Rattle.sql_meaning.specs.Terms.{TermKind, Equals, keys_of, kind_of, entry_keys, SideServes, ComparisonServes, AreEqualities, Serves, Term}
+use Rattle.sql_meaning.specs.Terms.{TermKind, Equals, keys_of, kind_of, entry_keys, SideServes}
+use Rattle.sql_meaning.specs.Terms.{ComparisonServes, AreEqualities, Serves, Term}
 use Rattle.sql_meaning.specs.Statements.{Bound, Conjunct, has_number, all_in}
 use Rattle.sql_meaning.specs.Plans.{Loop}
 use Rattle.sql_meaning.specs.UsedTerms.{Used, AllOf, AnyOf, Consumes, KeysPlaced, IsTerm}
@@ -57,7 +62,8 @@ placed_inside : (item : ℕ) (placed ns : List ℕ)
     → AllByRecursion (λ i. has_number i placed ≡ true) ns → all_in ns (item ∷ placed) ≡ true
 placed_inside item placed [] h = refl
 placed_inside item placed (n ∷ ns) h =
-    both_true _ _ (or_later (n == item) (has_number n placed) h.0) (placed_inside item placed ns h.1)
+    both_true _ _ (or_later (n == item) (has_number n placed) h.0)
+    (placed_inside item placed ns h.1)
 
 all_in_both : (xs ys ms : List ℕ) → all_in xs ms ≡ true → all_in ys ms ≡ true
     → all_in (xs ++ ys) ms ≡ true
@@ -106,7 +112,8 @@ other_placed : {item : ℕ} {site : Site} {kind : TermKind} {op : Op} {own other
     → KeysIn placed (keys_of kind)
     → AllByRecursion (λ i. has_number i placed ≡ true) (names other)
 other_placed {kind} {op} {other} {other_conversion} placed s k =
-    (subst (KeysIn placed) (kind_keys op (record { expr = other; conversion = other_conversion }) kind s.says) k).0
+    (subst (KeysIn placed)
+    (kind_keys op (record { expr = other; conversion = other_conversion }) kind s.says) k).0
 
 pub comparison_names : (item : ℕ) (site : Site) (collation : Collation) (kind : TermKind)
     (placed : List ℕ) (e : BExpr)
@@ -114,10 +121,12 @@ pub comparison_names : (item : ℕ) (site : Site) (collation : Collation) (kind 
     → NamesItem item placed (names e)
 comparison_names item site collation kind placed (Cmp op left right lc rc c) (same, inl s) k =
     subst (λ (ns : List ℕ). NamesItem item placed (ns ++ names right))
-    (sym (bare_names left _ s.is_column)) (from_left item placed (names right) (other_placed placed s k))
+    (sym (bare_names left _ s.is_column))
+    (from_left item placed (names right) (other_placed placed s k))
 comparison_names item site collation kind placed (Cmp op left right lc rc c) (same, inr s) k =
     subst (λ (ns : List ℕ). NamesItem item placed (names left ++ ns))
-    (sym (bare_names right _ s.is_column)) (from_right item placed (names left) (other_placed placed s k))
+    (sym (bare_names right _ s.is_column))
+    (from_right item placed (names left) (other_placed placed s k))
 comparison_names item site collation kind placed e h k = absurd h
 
 entries_placed : (placed : List ℕ) (conversion : Option Affinity) (es : BExprs)
@@ -160,7 +169,8 @@ served_names item site collation kind placed (OneOf negated own entries conversi
     subst (λ (ns : List ℕ). NamesItem item placed (ns ++ all_names entries))
     (sym (bare_names own _ h.2.is_column))
     (from_left item placed (all_names entries)
-    (entries_placed placed conversion entries (subst (λ (z : TermKind). KeysIn placed (keys_of z)) h.2.says k)))
+    (entries_placed placed conversion entries
+    (subst (λ (z : TermKind). KeysIn placed (keys_of z)) h.2.says k)))
 served_names item site collation kind placed (IsNull negated own) h k =
     subst (NamesItem item placed) (sym (bare_names own _ h.1)) (from_left item placed [] tt)
 served_names item site collation kind placed (Any es) h k =

@@ -1,12 +1,21 @@
 use Rattle.std.specs.List.{AllByRecursion}
-use Rattle.std.proofs.Common.{◌≡◌, true, Option, Some, None, refl, Bool, false, not, ◌≢◌, ℕ, ◌||◌, ◌==◌, List, ◌∷◌, sym, [], cond, ◌&&◌, ap, ◌∙◌, ◌⊎◌, inl, inr, subst, slice_get, suc, ◌+◌, arith}
+use Rattle.std.proofs.Common.{◌≡◌, true, Option, Some, None, refl, Bool, false, not, ◌≢◌, ℕ, ◌||◌}
+use Rattle.std.proofs.Common.{◌==◌, List, ◌∷◌, sym, [], cond, ◌&&◌, ap, ◌∙◌, ◌⊎◌, inl, inr, subst}
+use Rattle.std.proofs.Common.{slice_get, suc, ◌+◌, arith}
 use Rattle.std.proofs.lemmas.Bool.{eq-eqb, eqb-true}
 use Rattle.list_laws.proofs.Lists.{all_append}
 use Rattle.sql_meaning.specs.Values.{Affinity, Collation}
-use Rattle.sql_meaning.specs.Serving.{no_conversion, Served, side_served, served_or, comparison_served, equal_key, key_under, keys_or, keys_under, within, or_served, null_served, first_served, serving, numbered_term, if_allowed, direct_terms}
+use Rattle.sql_meaning.specs.Serving.{no_conversion, Served, side_served, served_or}
+use Rattle.sql_meaning.specs.Serving.{comparison_served, equal_key, key_under, keys_or, keys_under}
+use Rattle.sql_meaning.specs.Serving.{within, or_served, null_served, first_served, serving}
+use Rattle.sql_meaning.specs.Serving.{numbered_term, if_allowed, direct_terms}
 use Rattle.sql_meaning.specs.Statements.{has_number, Conjunct, Bound}
-use Rattle.sql_meaning.specs.Expressions.{ColumnRef, Op, BExpr, names, bare_column, Cmp, Lit, Param, Column, Rowid, Plus, Collate, OneOf, IsNull, Not, All, Any, BExprs, Nil, More, all_names}
-use Rattle.sql_meaning.specs.Terms.{TermKind, kind_of, SideServes, flipped, ComparisonServes, Equals, Within, IsNothing, Low, High, AreEqualities, OrServes, entry_keys, Serves}
+use Rattle.sql_meaning.specs.Expressions.{ColumnRef, Op, BExpr, names, bare_column, Cmp, Lit, Param}
+use Rattle.sql_meaning.specs.Expressions.{Column, Rowid, Plus, Collate, OneOf, IsNull, Not, All}
+use Rattle.sql_meaning.specs.Expressions.{Any, BExprs, Nil, More, all_names}
+use Rattle.sql_meaning.specs.Terms.{TermKind, kind_of, SideServes, flipped, ComparisonServes}
+use Rattle.sql_meaning.specs.Terms.{Equals, Within, IsNothing, Low, High, AreEqualities, OrServes}
+use Rattle.sql_meaning.specs.Terms.{entry_keys, Serves}
 use Rattle.sql_meaning.specs.Rows.{Site}
 use Rattle.sql_meaning.specs.Paths.{KeyExpr}
 use Rattle.sql_meaning.specs.Orders.{same_collation, same_site}

@@ -2,7 +2,8 @@
 use Rattle.std.specs.List.{filter}
 use Rattle.sql_meaning.specs.Statements.{exprs_of}
 use Rattle.sql_meaning.specs.Conjuncts.{may_derive}
-use Rattle.sql_meaning.specs.TermLaws.{TermsSayTheirConjuncts, LinkedColumnsAreEqual, DerivedTermsHold}
+use Rattle.sql_meaning.specs.TermLaws.{TermsSayTheirConjuncts, LinkedColumnsAreEqual}
+use Rattle.sql_meaning.specs.TermLaws.{DerivedTermsHold}
 use Rattle.sql_meaning.proofs.Terms.{serves_is}
 use Rattle.sql_meaning.proofs.Links.{linked_equal, derived_holds}
 use Rattle.sql_meaning.proofs.Offers.{fits_filter, chosen_all}

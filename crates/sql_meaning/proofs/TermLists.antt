@@ -1,18 +1,33 @@
 use Rattle.std.specs.List.{AllByRecursion, filter}
-use Rattle.std.proofs.Common.{◌≡◌, true, ◌==◌, refl, ap₂, ◌≢◌, ℕ, not, List, Bool, false, cond, ◌&&◌, [], ◌∷◌, Option, Some, slice_get, None, suc, ◌⊎◌, inl, inr, sym, subst, ◌||◌, zero, length, ap, ◌∙◌, add-zero, map}
+use Rattle.std.proofs.Common.{◌≡◌, true, ◌==◌, refl, ap₂, ◌≢◌, ℕ, not, List, Bool, false, cond}
+use Rattle.std.proofs.Common.{◌&&◌, [], ◌∷◌, Option, Some, slice_get, None, suc, ◌⊎◌, inl, inr, sym}
+use Rattle.std.proofs.Common.{subst, ◌||◌, zero, length, ap, ◌∙◌, add-zero, map}
 use Rattle.std.proofs.lemmas.Bool.{eqb-true, eq-eqb}
 use Rattle.list_laws.proofs.Lists.{all_flat_map, all_map, all_append}
-use Rattle.sql_meaning.specs.Values.{Affinity, Integer, Real, Numeric, TextAffinity, BlobAffinity, Collation}
-use Rattle.sql_meaning.specs.Links.{affinity_class, Linked, link, chain, back, Derives, by_key, by_column}
-use Rattle.sql_meaning.specs.TermLists.{class_number, same_ref, Pair, pair_of, link_pair, link_pairs, has_ref, add_if, extend, reach, ref_cmp, linked_to, derived_term, key_term, derived_terms, of_kind, is_equal, is_within, is_low, is_high, own_terms, column_terms, all_sites, item_terms, branch_own, derived_if, branch_column, branch_terms, OffersBranch, OffersBranches}
-use Rattle.sql_meaning.specs.Expressions.{ColumnRef, BExpr, IsEqual, Cmp, bare_column, IsUnequal, IsBelow, IsAtMost, IsAbove, IsAtLeast, Lit, Param, Column, Rowid, Plus, Collate, OneOf, IsNull, Not, All, Any, names, ref_expr, flat, BExprs, Nil, More}
+use Rattle.sql_meaning.specs.Values.{Affinity, Integer, Real, Numeric, TextAffinity, BlobAffinity}
+use Rattle.sql_meaning.specs.Values.{Collation}
+use Rattle.sql_meaning.specs.Links.{affinity_class, Linked, link, chain, back, Derives, by_key}
+use Rattle.sql_meaning.specs.Links.{by_column}
+use Rattle.sql_meaning.specs.TermLists.{class_number, same_ref, Pair, pair_of, link_pair}
+use Rattle.sql_meaning.specs.TermLists.{link_pairs, has_ref, add_if, extend, reach, ref_cmp}
+use Rattle.sql_meaning.specs.TermLists.{linked_to, derived_term, key_term, derived_terms, of_kind}
+use Rattle.sql_meaning.specs.TermLists.{is_equal, is_within, is_low, is_high, own_terms}
+use Rattle.sql_meaning.specs.TermLists.{column_terms, all_sites, item_terms, branch_own, derived_if}
+use Rattle.sql_meaning.specs.TermLists.{branch_column, branch_terms, OffersBranch, OffersBranches}
+use Rattle.sql_meaning.specs.Expressions.{ColumnRef, BExpr, IsEqual, Cmp, bare_column, IsUnequal}
+use Rattle.sql_meaning.specs.Expressions.{IsBelow, IsAtMost, IsAbove, IsAtLeast, Lit, Param, Column}
+use Rattle.sql_meaning.specs.Expressions.{Rowid, Plus, Collate, OneOf, IsNull, Not, All, Any, names}
+use Rattle.sql_meaning.specs.Expressions.{ref_expr, flat, BExprs, Nil, More}
 use Rattle.sql_meaning.specs.Orders.{same_site, same_collation}
 use Rattle.sql_meaning.specs.Schemas.{Schema}
 use Rattle.sql_meaning.specs.Items.{Item, own_column}
 use Rattle.sql_meaning.specs.Rows.{Site, AtRowid, AtColumn}
-use Rattle.sql_meaning.specs.Terms.{Term, part_of, TermKind, Serves, ComparisonServes, Equals, Within, IsNothing, Low, High}
-use Rattle.sql_meaning.specs.Choices.{part_or, edge_or, Offer, seek_offer, consumed_of, rowid_offer, paths_of, used_of}
-use Rattle.sql_meaning.specs.Statements.{is_empty, Bound, exprs_of, has_number, FitsStatement, item_alias, Conjunct}
+use Rattle.sql_meaning.specs.Terms.{Term, part_of, TermKind, Serves, ComparisonServes, Equals}
+use Rattle.sql_meaning.specs.Terms.{Within, IsNothing, Low, High}
+use Rattle.sql_meaning.specs.Choices.{part_or, edge_or, Offer, seek_offer, consumed_of, rowid_offer}
+use Rattle.sql_meaning.specs.Choices.{paths_of, used_of}
+use Rattle.sql_meaning.specs.Statements.{is_empty, Bound, exprs_of, has_number, FitsStatement}
+use Rattle.sql_meaning.specs.Statements.{item_alias, Conjunct}
 use Rattle.sql_meaning.specs.Paths.{KeyExpr, Edge, Union}
 use Rattle.sql_meaning.specs.Serving.{key_under, comparison_served, Served, serving, numbered_term}
 use Rattle.sql_meaning.specs.UsedTerms.{IsDirect, IsTerm, AllOf, IsBranchTerm, AnyOf}
@@ -23,7 +38,8 @@ use Rattle.sql_meaning.proofs.Offers.{and_left, and_right}
 use Rattle.sql_meaning.proofs.Rises.{site_is, collation_is}
 use Rattle.sql_meaning.proofs.Paths.{all_sort}
 use Rattle.sql_meaning.proofs.Serving.{key_is, equality_serves, direct_are, serving_is}
-use Rattle.sql_meaning.proofs.Choices.{AreColumnTerms, seek_plain, plain_offer, rowid_plain, IsPlainOffer, BranchOffers, union_offer}
+use Rattle.sql_meaning.proofs.Choices.{AreColumnTerms, seek_plain, plain_offer, rowid_plain}
+use Rattle.sql_meaning.proofs.Choices.{IsPlainOffer, BranchOffers, union_offer}
 
 class_is : (a b : Affinity) → (class_number a == class_number b) ≡ true
     → affinity_class a ≡ affinity_class b

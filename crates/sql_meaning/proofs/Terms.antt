@@ -1,14 +1,23 @@
 use Rattle.std.specs.declared.cmp.Ordering.{Ordering}
 use Rattle.std.specs.declared.cmp.Ordering.TheVariants.{Less, Equal as Ties, Greater}
 use Rattle.std.specs.Ordering.{ordering_reverse}
-use Rattle.std.proofs.Common.{◌≡◌, Some, List, ap, Bool, true, false, Option, None, refl, ◌||◌, cond, ◌∙◌, ℕ, inl, inr, map, [], ◌∷◌, sym, ℤ, ◌&&◌, ◌++◌}
-use Rattle.sql_meaning.specs.Values.{Value, Collation, value_cmp, is_null, Affinity, Null, Int, Dec, Text, Blob}
+use Rattle.std.proofs.Common.{◌≡◌, Some, List, ap, Bool, true, false, Option, None, refl, ◌||◌}
+use Rattle.std.proofs.Common.{cond, ◌∙◌, ℕ, inl, inr, map, [], ◌∷◌, sym, ℤ, ◌&&◌, ◌++◌}
+use Rattle.sql_meaning.specs.Values.{Value, Collation, value_cmp, is_null, Affinity, Null, Int, Dec}
+use Rattle.sql_meaning.specs.Values.{Text, Blob}
 use Rattle.sql_meaning.specs.Truth.{truth3}
 use Rattle.sql_meaning.specs.Conversions.{converted_by}
 use Rattle.sql_meaning.specs.Rows.{Assignment, cell, Site, Row, AtRowid, AtColumn, site_value}
-use Rattle.sql_meaning.specs.Expressions.{BExpr, Lit, Param, Column, Rowid, Plus, Collate, Cmp, OneOf, IsNull, Not, All, Any, ColumnRef, plain_column, bare_column, Op, IsEqual, IsUnequal, IsBelow, IsAtMost, IsAbove, IsAtLeast, BExprs, Nil, More}
-use Rattle.sql_meaning.specs.Evaluation.{ev, from_truth, or3, is_true, op_holds, compares, holds, one_of3, evs, equals_any, any3}
-use Rattle.sql_meaning.specs.Terms.{flipped, TermKind, kind_holds, kind_of, SideServes, ComparisonServes, entry_keys, Equals, AreEqualities, Serves, Within, IsNothing, Low, High, IsRowid, Term, MayUse, part_of, terms_true, LowFrom, HighFrom, Carries}
+use Rattle.sql_meaning.specs.Expressions.{BExpr, Lit, Param, Column, Rowid, Plus, Collate, Cmp}
+use Rattle.sql_meaning.specs.Expressions.{OneOf, IsNull, Not, All, Any, ColumnRef, plain_column}
+use Rattle.sql_meaning.specs.Expressions.{bare_column, Op, IsEqual, IsUnequal, IsBelow, IsAtMost}
+use Rattle.sql_meaning.specs.Expressions.{IsAbove, IsAtLeast, BExprs, Nil, More}
+use Rattle.sql_meaning.specs.Evaluation.{ev, from_truth, or3, is_true, op_holds, compares, holds}
+use Rattle.sql_meaning.specs.Evaluation.{one_of3, evs, equals_any, any3}
+use Rattle.sql_meaning.specs.Terms.{flipped, TermKind, kind_holds, kind_of, SideServes}
+use Rattle.sql_meaning.specs.Terms.{ComparisonServes, entry_keys, Equals, AreEqualities, Serves}
+use Rattle.sql_meaning.specs.Terms.{Within, IsNothing, Low, High, IsRowid, Term, MayUse, part_of}
+use Rattle.sql_meaning.specs.Terms.{terms_true, LowFrom, HighFrom, Carries}
 use Rattle.sql_meaning.specs.Paths.{KeyExpr, key_value, EqPart, part_value, Edge, end_value}
 use Rattle.sql_meaning.specs.Schemas.{AliasHolds}
 use Rattle.sql_meaning.specs.IndexLists.{SortColumn}

@@ -8,7 +8,8 @@ use Rattle.sql_meaning.specs.Conjuncts.{may_serve}
 use Rattle.sql_meaning.specs.UsedTerms.{AllOf, AnyOf}
 use Rattle.sql_meaning.specs.Offers.{IsOffer}
 use Rattle.sql_meaning.specs.OrderState.{columns_at}
-use Rattle.sql_meaning.specs.Choices.{Offer, rowid_offer, seek_offer, consumed_of, paths_of, used_of}
+use Rattle.sql_meaning.specs.Choices.{Offer, rowid_offer, seek_offer, consumed_of, paths_of}
+use Rattle.sql_meaning.specs.Choices.{used_of}
 use Rattle.sql_meaning.specs.TermLists.{item_terms, OffersBranches}
 
 abbrev pub TableScansAreOffers : Type 0

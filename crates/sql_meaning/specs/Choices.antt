@@ -1,5 +1,6 @@
 -- Which terms a seek takes for an item, after the items that are placed.
-use Rattle.std.specs.Prelude.{List, ℕ, Bool, true, ◌&&◌, [], ◌∷◌, cond, Option, Some, None, ◌++◌, map}
+use Rattle.std.specs.Prelude.{List, ℕ, Bool, true, ◌&&◌, [], ◌∷◌, cond, Option, Some, None, ◌++◌}
+use Rattle.std.specs.Prelude.{map}
 use Rattle.std.specs.List.{flat_map}
 use Rattle.std.specs.Ordering.{nat_cmp, eq_by_cmp}
 use Rattle.list_laws.specs.Order.{sort_by}
@@ -7,7 +8,8 @@ use Rattle.list_laws.specs.FirstComing.{keep_first}
 use Rattle.sql_meaning.specs.Rows.{Site, AtRowid, AtColumn}
 use Rattle.sql_meaning.specs.Terms.{Term, keys_of, TermKind, Equals, Within, IsNothing, Low, High}
 use Rattle.sql_meaning.specs.Expressions.{names}
-use Rattle.sql_meaning.specs.Paths.{KeyExpr, EqPart, OneKey, ManyKeys, NullKey, Edge, Path, RowidRange, RowidEq, IndexSeek, Paths, Nowhere, Then}
+use Rattle.sql_meaning.specs.Paths.{KeyExpr, EqPart, OneKey, ManyKeys, NullKey, Edge, Path}
+use Rattle.sql_meaning.specs.Paths.{RowidRange, RowidEq, IndexSeek, Paths, Nowhere, Then}
 use Rattle.sql_meaning.specs.Statements.{all_in}
 use Rattle.sql_meaning.specs.Orders.{same_site, same_collation}
 use Rattle.sql_meaning.specs.Schemas.{IndexColumn}

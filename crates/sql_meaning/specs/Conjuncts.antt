@@ -1,7 +1,9 @@
 -- Which conjuncts may serve an item, and at which loop a conjunct is tested.
-use Rattle.std.specs.Prelude.{ℕ, Bool, cond, not, ◌&&◌, ◌||◌, List, ◌∷◌, ◌==◌, Option, Some, None, ◌+◌, true, [], map}
+use Rattle.std.specs.Prelude.{ℕ, Bool, cond, not, ◌&&◌, ◌||◌, List, ◌∷◌, ◌==◌, Option, Some, None}
+use Rattle.std.specs.Prelude.{◌+◌, true, [], map}
 use Rattle.std.specs.List.{flat_map}
-use Rattle.sql_meaning.specs.Statements.{Conjunct, Bound, is_left, owned_by, is_common, has_number, all_in, is_empty}
+use Rattle.sql_meaning.specs.Statements.{Conjunct, Bound, is_left, owned_by, is_common, has_number}
+use Rattle.sql_meaning.specs.Statements.{all_in, is_empty}
 use Rattle.sql_meaning.specs.Expressions.{names, flat}
 use Rattle.sql_meaning.specs.Values.{Value}
 use Rattle.sql_meaning.specs.Rows.{Assignment}

@@ -1,9 +1,12 @@
 -- The value of an expression: three-valued, as in lang_expr of SQLite.
-use Rattle.std.specs.Prelude.{Bool, cond, ◌||◌, Option, Some, None, true, false, not, pos, ℕ, zero, suc, List, slice_index_or, [], ◌∷◌, map}
+use Rattle.std.specs.Prelude.{Bool, cond, ◌||◌, Option, Some, None, true, false, not, pos, ℕ, zero}
+use Rattle.std.specs.Prelude.{suc, List, slice_index_or, [], ◌∷◌, map}
 use Rattle.std.specs.declared.cmp.Ordering.{Ordering}
 use Rattle.std.specs.Ordering.{is_eq, is_ne, is_lt, is_le, is_gt, is_ge}
 use Rattle.std.specs.Option.{option_map}
-use Rattle.sql_meaning.specs.Expressions.{Op, IsEqual, IsUnequal, IsBelow, IsAtMost, IsAbove, IsAtLeast, BExpr, BExprs, Lit, Param, Column, Rowid, Plus, Collate, Cmp, OneOf, IsNull, Not, All, Any, Nil, More}
+use Rattle.sql_meaning.specs.Expressions.{Op, IsEqual, IsUnequal, IsBelow, IsAtMost, IsAbove}
+use Rattle.sql_meaning.specs.Expressions.{IsAtLeast, BExpr, BExprs, Lit, Param, Column, Rowid, Plus}
+use Rattle.sql_meaning.specs.Expressions.{Collate, Cmp, OneOf, IsNull, Not, All, Any, Nil, More}
 use Rattle.sql_meaning.specs.Values.{Value, Collation, value_cmp, is_null, Null, Int}
 use Rattle.sql_meaning.specs.Truth.{truth3}
 use Rattle.sql_meaning.specs.Conversions.{converted_by}

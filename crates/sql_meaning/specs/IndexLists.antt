@@ -1,5 +1,6 @@
 -- The list that an index keeps (fileformat2, "Index B-Trees").
-use Rattle.std.specs.Prelude.{Bool, false, true, List, [], ◌∷◌, map, Option, Some, None, ℕ, slice_get}
+use Rattle.std.specs.Prelude.{Bool, false, true, List, [], ◌∷◌, map, Option, Some, None, ℕ}
+use Rattle.std.specs.Prelude.{slice_get}
 use Rattle.std.specs.declared.cmp.Ordering.{Ordering}
 use Rattle.std.specs.Ordering.{flip_args, int_cmp, on, then_cmp}
 use Rattle.list_laws.specs.Order.{sort_by}

@@ -4,7 +4,9 @@ use Rattle.sql_meaning.specs.Schemas.{Schema, TableColumn, column_or, column_of_
 use Rattle.sql_meaning.specs.Values.{Binary, Integer, Affinity}
 use Rattle.sql_meaning.specs.Conversions.{side_conversion}
 use Rattle.sql_meaning.specs.Rows.{Site, AtRowid, AtColumn}
-use Rattle.sql_meaning.specs.Expressions.{ColumnRef, BExpr, Column, Rowid, Collate, Lit, Param, Plus, Cmp, OneOf, IsNull, Not, All, Any, BExprs, Nil, More}
+use Rattle.sql_meaning.specs.Expressions.{ColumnRef, BExpr, Column, Rowid, Collate, Lit, Param}
+use Rattle.sql_meaning.specs.Expressions.{Plus, Cmp, OneOf, IsNull, Not, All, Any, BExprs, Nil}
+use Rattle.sql_meaning.specs.Expressions.{More}
 
 -- a table in a FROM clause; `cross` where it comes after CROSS JOIN, `left` after LEFT JOIN
 pub record Item : Type 0 where

@@ -1,8 +1,10 @@
 -- Columns linked by equality, and the equalities that follow (optoverview, "transitive
 -- constraints").
 use Rattle.std.specs.Prelude.{◌≡◌, ◌≢◌, List, Some, ℕ, slice_get, [], None}
-use Rattle.sql_meaning.specs.Values.{Affinity, Integer, Real, Numeric, TextAffinity, BlobAffinity, Collation}
-use Rattle.sql_meaning.specs.Expressions.{BExpr, ColumnRef, bare_column, IsEqual, Cmp, names, ref_expr}
+use Rattle.sql_meaning.specs.Values.{Affinity, Integer, Real, Numeric, TextAffinity, BlobAffinity}
+use Rattle.sql_meaning.specs.Values.{Collation}
+use Rattle.sql_meaning.specs.Expressions.{BExpr, ColumnRef, bare_column, IsEqual, Cmp, names}
+use Rattle.sql_meaning.specs.Expressions.{ref_expr}
 use Rattle.sql_meaning.specs.Schemas.{Schema}
 use Rattle.sql_meaning.specs.Items.{Item, own_column}
 use Rattle.sql_meaning.specs.Paths.{KeyExpr}

@@ -3,7 +3,8 @@ use Rattle.std.specs.Prelude.{◌≡◌, ℕ, false, List, [], ◌∷◌, ◌≢
 use Rattle.std.specs.List.{AllByRecursion}
 use Rattle.list_laws.specs.Nest.{Rearranges}
 use Rattle.sql_meaning.specs.Schemas.{Schema}
-use Rattle.sql_meaning.specs.Statements.{Bound, has_number, item_alias, FitsStatement, all_in, is_left, numbers_from, OwnersAreLeft}
+use Rattle.sql_meaning.specs.Statements.{Bound, has_number, item_alias, FitsStatement, all_in}
+use Rattle.sql_meaning.specs.Statements.{is_left, numbers_from, OwnersAreLeft}
 use Rattle.sql_meaning.specs.Plans.{Loop, Plan}
 use Rattle.sql_meaning.specs.UsedTerms.{Used, PathCarries, UsedPlaced, UsedComes, Consumes}
 use Rattle.sql_meaning.specs.Expressions.{names}

@@ -1,9 +1,11 @@
 -- What order nested loops give by themselves, and when a plan must sort (optoverview, "ORDER BY
 -- Optimizations").
-use Rattle.std.specs.Prelude.{Bool, true, false, ℕ, ◌==◌, Option, Some, None, cond, List, [], ◌∷◌, slice_get, ◌&&◌, ◌||◌, not, ◌+◌, ◌-◌, length, ◌≡◌, map}
+use Rattle.std.specs.Prelude.{Bool, true, false, ℕ, ◌==◌, Option, Some, None, cond, List, [], ◌∷◌}
+use Rattle.std.specs.Prelude.{slice_get, ◌&&◌, ◌||◌, not, ◌+◌, ◌-◌, length, ◌≡◌, map}
 use Rattle.sql_meaning.specs.Values.{Collation, Binary}
 use Rattle.sql_meaning.specs.Rows.{Site, AtRowid, AtColumn}
-use Rattle.sql_meaning.specs.Paths.{EqPart, OneKey, ManyKeys, NullKey, Path, TableScan, RowidEq, RowidRange, IndexScan, IndexSeek, Union}
+use Rattle.sql_meaning.specs.Paths.{EqPart, OneKey, ManyKeys, NullKey, Path, TableScan, RowidEq}
+use Rattle.sql_meaning.specs.Paths.{RowidRange, IndexScan, IndexSeek, Union}
 use Rattle.sql_meaning.specs.Schemas.{IndexColumn, Index, Schema}
 use Rattle.sql_meaning.specs.Orders.{same_collation, same_site, same_flag}
 use Rattle.sql_meaning.specs.Expressions.{ColumnRef, bare_column}

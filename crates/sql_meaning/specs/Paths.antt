@@ -1,5 +1,6 @@
 -- The ways to a table's rows: scans, seeks by rowid or index, and unions of them (eqp).
-use Rattle.std.specs.Prelude.{Option, List, Bool, ℕ, map, Some, None, [], ◌∷◌, ◌++◌, false, ◌||◌, true}
+use Rattle.std.specs.Prelude.{Option, List, Bool, ℕ, map, Some, None, [], ◌∷◌, ◌++◌, false, ◌||◌}
+use Rattle.std.specs.Prelude.{true}
 use Rattle.std.specs.Ordering.{int_cmp, on, eq_by_cmp}
 use Rattle.list_laws.specs.FirstComing.{keep_first}
 use Rattle.sql_meaning.specs.Values.{Affinity, Value}
@@ -79,7 +80,8 @@ path_list schema TableScan rows = rows
 path_list schema (RowidEq part) rows = rows
 path_list schema (RowidRange low high) rows = rows
 path_list schema (IndexScan index) rows = index_entries (sort_columns schema index) rows
-path_list schema (IndexSeek index eqs low high) rows = index_entries (sort_columns schema index) rows
+path_list schema (IndexSeek index eqs low high) rows =
+    index_entries (sort_columns schema index) rows
 path_list schema (Union branches) rows = rows
 
 abbrev pub form_walk : SeekForm → List Value → Assignment → List Row → List Row

@@ -8,7 +8,9 @@ use Rattle.sql_meaning.specs.Values.{Value}
 use Rattle.sql_meaning.specs.Rows.{Assignment}
 use Rattle.sql_meaning.specs.Expressions.{names}
 use Rattle.sql_meaning.specs.Schemas.{Schema, Database, IsDatabaseOf}
-use Rattle.sql_meaning.specs.Statements.{Bound, all_in, is_empty, is_left, is_common, chosen_hold, SomeFails, choices, numbers_from, statement_rows, OwnersAreLeft}
+use Rattle.sql_meaning.specs.Statements.{Bound, all_in, is_empty, is_left, is_common, chosen_hold}
+use Rattle.sql_meaning.specs.Statements.{SomeFails, choices, numbers_from, statement_rows}
+use Rattle.sql_meaning.specs.Statements.{OwnersAreLeft}
 use Rattle.sql_meaning.specs.Plans.{Loop, Plan, always, consumed_by, steps_of, plan_walks}
 use Rattle.sql_meaning.specs.UsedTerms.{Used}
 use Rattle.sql_meaning.specs.Offers.{AreOffers, FitsOffers, loop_items}

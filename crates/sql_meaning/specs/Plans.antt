@@ -3,7 +3,8 @@ use Rattle.std.specs.Prelude.{ℕ, Bool, List, reverse, true, false, Option, map
 use Rattle.std.specs.List.{filter, flat_map}
 use Rattle.list_laws.specs.Nest.{place, Step, nested}
 use Rattle.sql_meaning.specs.Paths.{Path, walk}
-use Rattle.sql_meaning.specs.Statements.{Bound, or_missing, is_left, owned_by, item_rows, is_common, no_rows}
+use Rattle.sql_meaning.specs.Statements.{Bound, or_missing, is_left, owned_by, item_rows, is_common}
+use Rattle.sql_meaning.specs.Statements.{no_rows}
 use Rattle.sql_meaning.specs.Rows.{Row, Assignment}
 use Rattle.sql_meaning.specs.Values.{Value}
 use Rattle.sql_meaning.specs.Schemas.{Schema, Database}

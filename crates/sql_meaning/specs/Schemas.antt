@@ -1,5 +1,6 @@
 -- Tables, indexes, and the databases that a schema allows (fileformat2, withoutrowid left out).
-use Rattle.std.specs.Prelude.{ℕ, List, Option, Bool, Some, None, slice_get, [], ◌≡◌, ◌∷◌, slice_index_or, length}
+use Rattle.std.specs.Prelude.{ℕ, List, Option, Bool, Some, None, slice_get, [], ◌≡◌, ◌∷◌}
+use Rattle.std.specs.Prelude.{slice_index_or, length}
 use Rattle.std.specs.List.{AllByRecursion}
 use Rattle.std.specs.declared.cmp.Ordering.TheVariants.{Less}
 use Rattle.std.specs.Ordering.{int_cmp}

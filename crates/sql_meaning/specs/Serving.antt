@@ -1,10 +1,13 @@
 -- The term that a conjunct gives, as a function: what `Serves` allows, in the order in which it is
 -- tried.
-use Rattle.std.specs.Prelude.{Bool, true, false, Option, Some, None, ℕ, cond, ◌&&◌, ◌==◌, not, List, ◌∷◌, [], suc, ◌++◌}
+use Rattle.std.specs.Prelude.{Bool, true, false, Option, Some, None, ℕ, cond, ◌&&◌, ◌==◌, not, List}
+use Rattle.std.specs.Prelude.{◌∷◌, [], suc, ◌++◌}
 use Rattle.sql_meaning.specs.Values.{Collation, Affinity}
 use Rattle.sql_meaning.specs.Rows.{Site}
-use Rattle.sql_meaning.specs.Terms.{TermKind, flipped, kind_of, Equals, Within, IsNothing, entry_keys, Term}
-use Rattle.sql_meaning.specs.Expressions.{ColumnRef, BExpr, Cmp, names, bare_column, BExprs, Nil, More, OneOf, IsNull, Any, all_names}
+use Rattle.sql_meaning.specs.Terms.{TermKind, flipped, kind_of, Equals, Within, IsNothing}
+use Rattle.sql_meaning.specs.Terms.{entry_keys, Term}
+use Rattle.sql_meaning.specs.Expressions.{ColumnRef, BExpr, Cmp, names, bare_column, BExprs, Nil}
+use Rattle.sql_meaning.specs.Expressions.{More, OneOf, IsNull, Any, all_names}
 use Rattle.sql_meaning.specs.Statements.{has_number, Conjunct, Bound}
 use Rattle.sql_meaning.specs.Paths.{KeyExpr}
 use Rattle.sql_meaning.specs.Orders.{same_collation, same_site}

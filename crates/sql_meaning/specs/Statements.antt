@@ -1,5 +1,7 @@
 -- A bound statement, and its rows: what the statement asks for, without any plan.
-use Rattle.std.specs.Prelude.{ℕ, Option, Bool, ℤ, List, false, ◌||◌, ◌==◌, [], ◌∷◌, true, ◌&&◌, Some, None, slice_get, not, slice_index_or, cond, map, zero, suc, ◌+◌, length, replicate, ◌≡◌, pos, negsuc, take, drop}
+use Rattle.std.specs.Prelude.{ℕ, Option, Bool, ℤ, List, false, ◌||◌, ◌==◌, [], ◌∷◌, true, ◌&&◌}
+use Rattle.std.specs.Prelude.{Some, None, slice_get, not, slice_index_or, cond, map, zero, suc, ◌+◌}
+use Rattle.std.specs.Prelude.{length, replicate, ◌≡◌, pos, negsuc, take, drop}
 use Rattle.std.specs.List.{filter, AllByRecursion}
 use Rattle.list_laws.specs.Nest.{place, product}
 use Rattle.sql_meaning.specs.Expressions.{BExpr}

@@ -22,7 +22,8 @@ TermsSayTheirConjuncts =
 -- where conjuncts hold, the columns that they link are equal by their own collation
 abbrev pub LinkedColumnsAreEqual : Type 0
 LinkedColumnsAreEqual =
-    (schema : Schema) (items : List Item) (es : List BExpr) → AllByRecursion (FitsExpr schema items) es
+    (schema : Schema) (items : List Item) (es : List BExpr)
+    → AllByRecursion (FitsExpr schema items) es
     → (c d : ColumnRef) → Linked schema items es c d → (env : Assignment) (params : List Value)
     → AllByRecursion (λ e. holds env params e ≡ true) es
     → compares IsEqual (own_column schema items c).collation (cell env c.item c.site)

@@ -1,19 +1,25 @@
 -- The terms of an item, as lists: direct ones, derived ones, and those of the branches of an OR.
-use Rattle.std.specs.Prelude.{Bool, ◌&&◌, ◌==◌, ℕ, cond, not, List, [], ◌∷◌, Option, Some, None, false, ◌||◌, zero, suc, ◌+◌, length, ◌++◌, true, map, slice_get, ◌≡◌, ◌⊎◌}
+use Rattle.std.specs.Prelude.{Bool, ◌&&◌, ◌==◌, ℕ, cond, not, List, [], ◌∷◌, Option, Some, None}
+use Rattle.std.specs.Prelude.{false, ◌||◌, zero, suc, ◌+◌, length, ◌++◌, true, map, slice_get, ◌≡◌}
+use Rattle.std.specs.Prelude.{◌⊎◌}
 use Rattle.std.specs.List.{flat_map, filter}
 use Rattle.std.specs.declared.cmp.Ordering.{Ordering}
 use Rattle.std.specs.Ordering.{nat_cmp, on, then_cmp}
 use Rattle.list_laws.specs.Order.{sort_by}
-use Rattle.sql_meaning.specs.Expressions.{ColumnRef, IsEqual, BExpr, Cmp, bare_column, names, ref_expr, flat, BExprs, Nil, More}
+use Rattle.sql_meaning.specs.Expressions.{ColumnRef, IsEqual, BExpr, Cmp, bare_column, names}
+use Rattle.sql_meaning.specs.Expressions.{ref_expr, flat, BExprs, Nil, More}
 use Rattle.sql_meaning.specs.Orders.{same_site, same_collation}
-use Rattle.sql_meaning.specs.Values.{Affinity, Integer, Real, Numeric, TextAffinity, BlobAffinity, Collation}
+use Rattle.sql_meaning.specs.Values.{Affinity, Integer, Real, Numeric, TextAffinity, BlobAffinity}
+use Rattle.sql_meaning.specs.Values.{Collation}
 use Rattle.sql_meaning.specs.Schemas.{Schema, columns_of}
 use Rattle.sql_meaning.specs.Items.{Item, own_column}
 use Rattle.sql_meaning.specs.Rows.{Site, AtRowid, AtColumn}
 use Rattle.sql_meaning.specs.Paths.{KeyExpr}
 use Rattle.sql_meaning.specs.Terms.{Equals, Term, TermKind, Within, IsNothing, Low, High}
-use Rattle.sql_meaning.specs.Statements.{is_empty, Bound, exprs_of, numbers_from, table_of, Conjunct, item_alias}
-use Rattle.sql_meaning.specs.Serving.{key_under, comparison_served, direct_terms, serving, numbered_term}
+use Rattle.sql_meaning.specs.Statements.{is_empty, Bound, exprs_of, numbers_from, table_of}
+use Rattle.sql_meaning.specs.Statements.{Conjunct, item_alias}
+use Rattle.sql_meaning.specs.Serving.{key_under, comparison_served, direct_terms, serving}
+use Rattle.sql_meaning.specs.Serving.{numbered_term}
 use Rattle.sql_meaning.specs.Conjuncts.{may_derive}
 use Rattle.sql_meaning.specs.OrderState.{columns_at}
 use Rattle.sql_meaning.specs.Choices.{ColumnTerms, Offer, rowid_offer, seek_offer}

@@ -1,11 +1,15 @@
 -- Terms: what a conjunct says of one column, so that an index can be used (optoverview, "WHERE
 -- Clause Analysis").
-use Rattle.std.specs.Prelude.{Bool, List, ℕ, Option, [], ◌∷◌, cond, map, true, ◌&&◌, false, Some, None, ◌≡◌, ◌≢◌, ◌⊎◌, ◌++◌}
+use Rattle.std.specs.Prelude.{Bool, List, ℕ, Option, [], ◌∷◌, cond, map, true, ◌&&◌, false, Some}
+use Rattle.std.specs.Prelude.{None, ◌≡◌, ◌≢◌, ◌⊎◌, ◌++◌}
 use Rattle.std.specs.List.{AllByRecursion}
-use Rattle.sql_meaning.specs.Paths.{KeyExpr, key_value, EqPart, OneKey, ManyKeys, NullKey, Edge, SeekForm}
+use Rattle.sql_meaning.specs.Paths.{KeyExpr, key_value, EqPart, OneKey, ManyKeys, NullKey, Edge}
+use Rattle.sql_meaning.specs.Paths.{SeekForm}
 use Rattle.sql_meaning.specs.Values.{Collation, Value, is_null, Affinity}
 use Rattle.sql_meaning.specs.Rows.{Site, Assignment, cell, Row, site_value, AtRowid, AtColumn}
-use Rattle.sql_meaning.specs.Expressions.{IsEqual, IsBelow, IsAtMost, IsAbove, IsAtLeast, Op, IsUnequal, BExpr, names, bare_column, BExprs, Nil, More, Cmp, all_names, OneOf, IsNull, Any}
+use Rattle.sql_meaning.specs.Expressions.{IsEqual, IsBelow, IsAtMost, IsAbove, IsAtLeast, Op}
+use Rattle.sql_meaning.specs.Expressions.{IsUnequal, BExpr, names, bare_column, BExprs, Nil, More}
+use Rattle.sql_meaning.specs.Expressions.{Cmp, all_names, OneOf, IsNull, Any}
 use Rattle.sql_meaning.specs.Evaluation.{compares, equals_any}
 use Rattle.sql_meaning.specs.IndexLists.{SortColumn}
 
@@ -76,7 +80,8 @@ kind_of IsAtLeast key = Some (Low key true)
 
 -- one side is the column, which the comparison does not convert, and the other names no column of
 -- the item
-pub record SideServes (item : ℕ) (site : Site) (kind : TermKind) (op : Op) (own other : BExpr) (own_conversion other_conversion : Option Affinity) : Type 0
+pub record SideServes (item : ℕ) (site : Site) (kind : TermKind) (op : Op) (own other : BExpr) (own_conversion other_conversion : Option Affinity) :
+    Type 0
   where
     pub is_column : bare_column own ≡ Some (record { item = item; site = site })
     pub unconverted : own_conversion ≡ None
@@ -104,7 +109,8 @@ AreEqualities item site collation (More e es) [] = ⊥
 AreEqualities item site collation (More e es) (key ∷ keys) =
     ComparisonServes item site collation (Equals key) e × AreEqualities item site collation es keys
 
-pub record ListServes (item : ℕ) (site : Site) (kind : TermKind) (own : BExpr) (entries : BExprs) (entry_conversion : Option Affinity) : Type 0
+pub record ListServes (item : ℕ) (site : Site) (kind : TermKind) (own : BExpr) (entries : BExprs) (entry_conversion : Option Affinity) :
+    Type 0
   where
     pub is_column : bare_column own ≡ Some (record { item = item; site = site })
     pub foreign : AllByRecursion (λ i. i ≢ item) (all_names entries)

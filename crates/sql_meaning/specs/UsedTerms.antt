@@ -1,5 +1,6 @@
 -- The terms that a path uses, where they come from, and what the path consumes.
-use Rattle.std.specs.Prelude.{List, ℕ, Bool, true, ◌&&◌, [], ◌∷◌, false, ◌||◌, ◌≡◌, Option, Some, slice_get, ◌⊎◌, None}
+use Rattle.std.specs.Prelude.{List, ℕ, Bool, true, ◌&&◌, [], ◌∷◌, false, ◌||◌, ◌≡◌, Option, Some}
+use Rattle.std.specs.Prelude.{slice_get, ◌⊎◌, None}
 use Rattle.std.specs.List.{AllByRecursion, filter}
 use Rattle.sql_meaning.specs.Terms.{Term, term_holds, FormCarries, keys_of, Serves}
 use Rattle.sql_meaning.specs.Values.{Value}

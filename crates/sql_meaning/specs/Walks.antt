@@ -1,5 +1,6 @@
 -- The walk of a sorted list: equality parts on its first columns, bounds on the next one.
-use Rattle.std.specs.Prelude.{Bool, List, cond, ◌||◌, Option, Some, None, false, true, [], not, ◌∷◌, ◌&&◌}
+use Rattle.std.specs.Prelude.{Bool, List, cond, ◌||◌, Option, Some, None, false, true, [], not, ◌∷◌}
+use Rattle.std.specs.Prelude.{◌&&◌}
 use Rattle.std.specs.Ordering.{is_lt, is_le, is_gt, is_ge, eq_by_cmp}
 use Rattle.std.specs.List.{filter, flat_map}
 use Rattle.list_laws.specs.Stretch.{stretch}
