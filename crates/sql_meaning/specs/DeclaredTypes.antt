@@ -1,13 +1,17 @@
 -- The affinity of a column, by its declared type.
-use Rattle.std.specs.Prelude.{ℕ, Bool, false, ◌||◌, ◌==◌, if◌then◌else◌, List, [], ◌∷◌, length, codes, nat_eq}
-use Rattle.std.specs.List.{starts_with}
+use Rattle.std.specs.Prelude.{ℕ, Bool, true, false, ◌&&◌, ◌||◌, ◌==◌, if◌then◌else◌, List, [], ◌∷◌, length, codes}
 use Rattle.sql_meaning.specs.Letters.{folded_bytes}
 use Rattle.sql_meaning.specs.Values.{Affinity, Integer, Real, Numeric, TextAffinity, BlobAffinity}
+
+abbrev pub begins_with : List ℕ → List ℕ → Bool
+begins_with [] bytes = true
+begins_with (w ∷ ws) [] = false
+begins_with (w ∷ ws) (b ∷ bs) = b == w && begins_with ws bs
 
 -- whether a word of one byte or more stands somewhere in a text
 abbrev pub holds_word : List ℕ → List ℕ → Bool
 holds_word word [] = false
-holds_word word (b ∷ bs) = starts_with nat_eq (b ∷ bs) word || holds_word word bs
+holds_word word (b ∷ bs) = begins_with word (b ∷ bs) || holds_word word bs
 
 -- the first rule that fits, whatever the case of the letters
 abbrev pub affinity_of_folded : List ℕ → Affinity

@@ -1,7 +1,7 @@
 -- The truth of a value as a condition: true, false or unknown.
-use Rattle.std.specs.Prelude.{ℕ, nat_abs, Bool, not, ◌||◌, ◌==◌, if◌then◌else◌, List, [], ◌∷◌, ◌++◌, drop, Option, Some, None, take_while}
+use Rattle.std.specs.Prelude.{ℕ, nat_abs, Bool, not, ◌||◌, ◌==◌, if◌then◌else◌, List, [], ◌∷◌, ◌++◌, Option, Some, None}
 use Rattle.std.specs.Char.{is_ascii_digit}
-use Rattle.std.specs.List.{prefix_len, list_any}
+use Rattle.std.specs.List.{list_any}
 use Rattle.sql_meaning.specs.Values.{Value, Null, Int, Dec, Text, Blob, without_leading}
 
 abbrev pub without_sign : List ℕ → List ℕ
@@ -9,23 +9,29 @@ without_sign [] = []
 without_sign (b ∷ bs) = if b == 43 || b == 45 then bs else (b ∷ bs)
 
 abbrev pub front_digits : List ℕ → List ℕ
-front_digits bytes = take_while is_ascii_digit bytes
+front_digits [] = []
+front_digits (b ∷ bs) = if is_ascii_digit b then b ∷ front_digits bs else []
+
+abbrev pub without_digits : List ℕ → List ℕ
+without_digits [] = []
+without_digits (b ∷ bs) = if is_ascii_digit b then without_digits bs else (b ∷ bs)
 
 -- the digits behind a point, where one comes first
 abbrev pub digits_behind_point : List ℕ → List ℕ
 digits_behind_point [] = []
 digits_behind_point (b ∷ bs) = if b == 46 then front_digits bs else []
 
--- the digits of the longest run of spaces, a sign, digits, a point and digits at the start, each of
--- which may be missing
-abbrev pub run_digits : List ℕ → List ℕ
-run_digits bytes = digits_of (without_sign (without_leading 32 bytes))
-  where
-    digits_of : List ℕ → List ℕ
-    digits_of bytes = front_digits bytes ++ digits_behind_point (drop (prefix_len is_ascii_digit bytes) bytes)
+-- the digits of the longest run of digits, a point and digits at the start
+abbrev pub number_digits : List ℕ → List ℕ
+number_digits bytes = front_digits bytes ++ digits_behind_point (without_digits bytes)
 
+abbrev pub is_nonzero : ℕ → Bool
+is_nonzero digit = not (digit == 48)
+
+-- the longest run of spaces, a sign, digits, a point and digits at the start, each of which may be
+-- missing, has a digit that isn't 0
 abbrev pub is_true_text : List ℕ → Bool
-is_true_text bytes = list_any (λ digit. not (digit == 48)) (run_digits bytes)
+is_true_text bytes = list_any is_nonzero (number_digits (without_sign (without_leading 32 bytes)))
 
 abbrev pub truth3 : Value → Option Bool
 truth3 Null = None

@@ -4,7 +4,22 @@
 mod items;
 mod keywords;
 mod reserved;
+mod names;
+mod values;
+mod numbers;
+mod order;
+mod conversion;
+mod condition;
+mod types;
 
+pub use condition::truth;
+pub use conversion::{apply, conversions, convert};
 pub use items::{Bytes, Items, Memory};
 pub use keywords::{Keyword, find_keyword, is_same_word, keyword_text};
+pub use keywords::{Keyword, find_keyword, keyword_text};
+pub use names::{fold, fold_byte};
+pub use numbers::read_number;
+pub use order::compare;
 pub use reserved::{is_reserved, is_reserved_keyword};
+pub use types::affinity_of;
+pub use values::{Affinity, Collation, Conversions, Value, Values};
