@@ -23,4 +23,9 @@ pub use offering::{
 pub use walks::{
     consumed_conjuncts_hold, index_lists_are_sorted, unions_have_each_row_once, unions_miss_no_row,
     walks_are_filters,
+mod values;
+
+pub use values::{
+    conversions_settle, declared_words_stand_in_text, numbers_are_read, order_is_total,
+    same_is_an_equivalence, written_numbers_read_back,
 };
