@@ -3,6 +3,8 @@ pub mod Scaled
 pub mod Reading
 pub mod Conversions
 pub mod Databases
+pub mod Words
+pub mod Bounds
 pub mod Evaluation
 pub mod Seeks
 pub mod Paths

@@ -9,7 +9,7 @@ use Rattle.std.specs.List.{position_or_len}
 use Rattle.std.proofs.lemmas.Str.Parse.{IsNumeralModel, numerals_by_fold, digits_value_short}
 use Rattle.std.proofs.lemmas.List.{length-append, take_at, append-nil}
 use Rattle.std.proofs.lemmas.Fmt.{digits_decimal, digits_value-decimal, decimal_nonempty}
-use Rattle.sql_meaning.specs.Values.{Value, Int, Dec, IsI64}
+use Rattle.sql_meaning.specs.Values.{Value, IsValue, Int, Dec, IsI64}
 use Rattle.sql_meaning.specs.Numbers.{Digits, Sign, bare, plus, minus, ReadsAs, whole, pointed, digits_behind, digits_up_to, signed, last_digit_units, read_whole, is_point, read_around, read_unsigned, read_number, fraction_text, dec_text}
 
 pub own : IsNumeralModel (λ ds. all_ascii_digits ds ≡ true) (digits_behind 0)
@@ -25,11 +25,11 @@ pub upto_is : (most n : ℕ) (ds : List ℕ) → Digits ds n → n ≤ most → 
 upto_is most n [] d h = absurd (omega (arith, d.some))
 upto_is most n (c ∷ cs) d h = chosen (all_ascii_digits (c ∷ cs)) (digits_behind 0 (c ∷ cs)) most d.all (rw d.value h) ∙ ap Some d.value
 
-and_left : (a b : Bool) → (a && b) ≡ true → a ≡ true
+pub and_left : (a b : Bool) → (a && b) ≡ true → a ≡ true
 and_left true b e = refl
 and_left false b e = absurd (cc)
 
-and_right : (a b : Bool) → (a && b) ≡ true → b ≡ true
+pub and_right : (a b : Bool) → (a && b) ≡ true → b ≡ true
 and_right true b e = e
 and_right false b e = absurd (cc)
 
@@ -257,3 +257,28 @@ first_parts false false c cs v f g k = unsigned_at_parts false [] (c ∷ cs) v b
 pub sound : (text : List ℕ) (v : Value) → read_number text ≡ Some v → ReadsAs text v
 sound [] v k = absurd (cc)
 sound (c ∷ cs) v k = first_parts (c == 43) (c == 45) c cs v refl refl k
+
+some_same : (v w : Value) → Some v ≡ Some w → v ≡ w
+some_same v w e = cc
+
+pub one_number : (text : List ℕ) (v w : Value) → ReadsAs text v → ReadsAs text w → v ≡ w
+one_number text v w r s = some_same v w (sym (complete text v r) ∙ complete text w s)
+
+places_units : (k f : ℕ) → k ≤ 4 → f < 10 ^ k → f * last_digit_units k < 10000
+places_units zero f h i = omega (arith, i)
+places_units (suc zero) f h i = omega (arith, i)
+places_units (suc (suc zero)) f h i = omega (arith, i)
+places_units (suc (suc (suc zero))) f h i = omega (arith, i)
+places_units (suc (suc (suc (suc zero)))) f h i = omega (arith, i)
+places_units (suc (suc (suc (suc (suc k))))) f h i = absurd (omega (arith, h))
+
+pub signed_size : (negative : Bool) (n : ℕ) → unsigned_abs (signed negative n) ≡ n
+signed_size false n = refl
+signed_size true zero = refl
+signed_size true (suc n) = refl
+
+pub read_is_value : (text : List ℕ) (v : Value) → ReadsAs text v → IsValue v
+read_is_value text _ (whole s d i e) = i
+read_is_value text _ (pointed {fraction} {negative} {n} {f} s d p l h e) =
+    let below = places_units (length fraction) f l (small_digits (length fraction) fraction f p (omega arith)) in
+    rw (signed_size negative (n * 10000 + f * last_digit_units (length fraction))) (omega (arith, h, below))
