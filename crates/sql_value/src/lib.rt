@@ -23,3 +23,6 @@ pub use order::compare;
 pub use reserved::{is_reserved, is_reserved_keyword};
 pub use types::affinity_of;
 pub use values::{Affinity, Collation, Conversions, Value, Values};
+
+#[cfg(test)]
+mod tests;
