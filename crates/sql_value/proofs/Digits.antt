@@ -1,5 +1,5 @@
 -- Digits that pass a limit.
-use Rattle.std.proofs.Common.{◌≡◌, ℕ, zero, suc, ◌+◌, ◌-◌, ◌*◌, ◌≤◌, ◌<◌, Bool, true, false, ◌&&◌, nat_le, List, [], ◌∷◌, Option, None, Some, refl, arith, ap, ◌∙◌, sym, if◌then◌else◌, take, drop, length, get_or}
+use Rattle.std.proofs.Common.{◌≡◌, ℕ, zero, suc, ◌+◌, ◌-◌, ◌*◌, ◌≤◌, ◌<◌, Bool, ◌&&◌, nat_le, List, [], ◌∷◌, None, Some, refl, arith, if◌then◌else◌, drop, length, get_or}
 use Rattle.std.specs.Str.{all_ascii_digits}
 use Rattle.sql_meaning.specs.Numbers.{digits_behind, digits_up_to}
 

@@ -1,5 +1,4 @@
 -- Values as plain data: texts and blobs are lists of bytes.
-use Rattle.std.specs.Prelude.{Option, option_map}
 use Rattle.sql_value.specs.declared.values.Affinity.{Affinity}
 use Rattle.sql_value.specs.declared.values.Affinity.TheVariants.{Integer, Real, Numeric, Text as TextAffinity, Blob as BlobAffinity}
 use Rattle.sql_value.specs.declared.values.Collation.{Collation}

@@ -3,11 +3,10 @@ ghost use Rattle.std.specs.Prelude.{◌≡◌, IfOk, option_map};
 ghost use Rattle.sql_meaning.specs.Conversions as meant;
 ghost use Rattle.sql_value.specs.View.{plain_value, plain_affinity};
 
-use std::alloc::Global;
-
 use crate::items::Memory;
 use crate::numbers::{dec_text, int_text, read_number};
 use crate::values::{Affinity, Conversions, Value};
+use std::alloc::Global;
 
 /// The value as a column of this affinity holds it: section 3 of <https://sqlite.org/datatype3.html>.
 pub fn apply(alloc: Global, aff: Affinity, value: &Value) -> Result<Value, Memory>
@@ -100,12 +99,8 @@ fn copy_written(alloc: Global, value: &Value) -> Result<Value, Memory>
 /// What is applied to each side of a comparison, by the affinities that the two sides have: section
 /// 4.2 of <https://sqlite.org/datatype3.html>. Takes no memory.
 pub fn conversions(left: Option<Affinity>, right: Option<Affinity>) -> Conversions
-    ensures left {
-        option_map plain_affinity result.left ≡ meant.side_conversion (option_map plain_affinity left) (option_map plain_affinity right)
-    }
-    ensures right {
-        option_map plain_affinity result.right ≡ meant.side_conversion (option_map plain_affinity right) (option_map plain_affinity left)
-    }
+    ensures left { option_map plain_affinity result.left ≡ meant.side_conversion (option_map plain_affinity left) (option_map plain_affinity right) }
+    ensures right { option_map plain_affinity result.right ≡ meant.side_conversion (option_map plain_affinity right) (option_map plain_affinity left) }
 {
     Conversions {
         left: side_conversion(left, right),

@@ -1,16 +1,16 @@
 //! Bytes and values: what every layer above reads, compares and prints.
 #![tactic(auto)]
 
+mod condition;
+mod conversion;
 mod items;
 mod keywords;
-mod reserved;
 mod names;
-mod values;
 mod numbers;
 mod order;
-mod conversion;
-mod condition;
+mod reserved;
 mod types;
+mod values;
 
 pub use condition::truth;
 pub use conversion::{apply, conversions, convert};

@@ -2,15 +2,18 @@
 ghost use Rattle.std.specs.Prelude.{◌≡◌, IfOk};
 ghost use Rattle.sql_meaning.specs.Letters.{folded, folded_bytes};
 
-use std::alloc::Global;
-
 use crate::items::{Bytes, Memory};
+use std::alloc::Global;
 
 /// The byte with `A` to `Z` made lower.
 pub fn fold_byte(byte: u8) -> u8
     ensures { result ≡ folded byte }
 {
-    if byte.is_ascii_uppercase() { byte + 32 } else { byte }
+    if byte.is_ascii_uppercase() {
+        byte + 32
+    } else {
+        byte
+    }
 }
 
 /// The name with `A` to `Z` made lower, as names and keywords are compared.

@@ -4,10 +4,9 @@ ghost use Rattle.std.specs.Fmt.{signed_decimal};
 ghost use Rattle.sql_meaning.specs.Numbers as meant;
 ghost use Rattle.sql_value.specs.View.{plain_value};
 
-use std::alloc::Global;
-
 use crate::items::{Bytes, Memory};
 use crate::values::Value;
+use std::alloc::Global;
 
 /// The greatest part of a decimal before its point.
 const MOST_WHOLE_PART: u64 = 99_999_999_999;

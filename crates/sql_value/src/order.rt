@@ -1,15 +1,14 @@
 //! The order of values.
-ghost use Rattle.std.specs.Prelude.{◌≡◌};
+ghost use Rattle.std.specs.Prelude.{◌≡◌, ◌*ℤ◌, pos};
 ghost use Rattle.std.specs.Cmp.Lexicographic.{slice_cmp};
-ghost use Rattle.std.specs.Ordering.{nat_cmp};
+ghost use Rattle.std.specs.Ordering.{nat_cmp, int_cmp};
 ghost use Rattle.sql_meaning.specs.Letters.{folded_bytes};
 ghost use Rattle.sql_meaning.specs.Values.{value_cmp, text_key, without_trailing};
 ghost use Rattle.sql_value.specs.View.{plain_value, plain_collation};
 
-use std::cmp::Ordering;
-
 use crate::names::fold_byte;
 use crate::values::{Collation, Value};
+use std::cmp::Ordering;
 
 /// The order of two values: NULL first, then numbers, texts and blobs, as section 4.1 of
 /// <https://sqlite.org/datatype3.html> has it. Takes no memory and makes no key.
@@ -20,7 +19,7 @@ pub fn compare(coll: Collation, left: &Value, right: &Value) -> Ordering
         (Value::Null, Value::Null) => Ordering::Equal,
         (Value::Null, _) => Ordering::Less,
         (_, Value::Null) => Ordering::Greater,
-        (Value::Int(a), Value::Int(b)) => (*a as i128 * 10000).cmp(&(*b as i128 * 10000)),
+        (Value::Int(a), Value::Int(b)) => compare_ints(a, b),
         (Value::Int(a), Value::Dec(b)) => (*a as i128 * 10000).cmp(&(*b as i128)),
         (Value::Dec(a), Value::Int(b)) => (*a as i128).cmp(&(*b as i128 * 10000)),
         (Value::Dec(a), Value::Dec(b)) => a.cmp(b),
@@ -35,10 +34,15 @@ pub fn compare(coll: Collation, left: &Value, right: &Value) -> Ordering
     }
 }
 
+/// Integers compare as their multiples do, so nothing is multiplied.
+fn compare_ints(left: &i64, right: &i64) -> Ordering
+    ensures { result ≡ int_cmp (left.now *ℤ pos 10000) (right.now *ℤ pos 10000) }
+{
+    left.cmp(right)
+}
+
 fn compare_texts(coll: Collation, left: &[u8], right: &[u8]) -> Ordering
-    ensures {
-        result ≡ slice_cmp nat_cmp (text_key (plain_collation coll) left.now) (text_key (plain_collation coll) right.now)
-    }
+    ensures { result ≡ slice_cmp nat_cmp (text_key (plain_collation coll) left.now) (text_key (plain_collation coll) right.now) }
 {
     match coll {
         Collation::Binary => left.cmp(right),

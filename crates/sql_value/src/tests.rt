@@ -1,12 +1,11 @@
 //! Whether the definitions say what was meant: values worked out elsewhere, and calls that succeed.
-use std::alloc::Global;
-use std::cmp::Ordering;
-use std::test::Fail;
-
 use crate::{
     Affinity, Bytes, Collation, Memory, Value, Values, affinity_of, apply, compare, conversions,
     convert, fold, read_number, truth,
 };
+use std::alloc::Global;
+use std::cmp::Ordering;
+use std::test::Fail;
 
 /// A value that can be written down and compared.
 #[derive(Clone, Copy, Debug, PartialEq)]
@@ -18,7 +17,7 @@ enum Plain<'a> {
     Blob(&'a [u8]),
 }
 
-fn plain(value: &Value) -> Plain<'_> {
+fn seen(value: &Value) -> Plain<'_> {
     match value {
         Value::Null => Plain::Null,
         Value::Int(number) => Plain::Int(*number),
@@ -43,25 +42,120 @@ fn orders_values(rt: HostRuntime) -> Result<(), Fail> {
     let alloc = rt.alloc();
     for (coll, left, right, want) in [
         (Collation::Binary, Plain::Null, Plain::Null, Ordering::Equal),
-        (Collation::Binary, Plain::Null, Plain::Int(i64::MIN), Ordering::Less),
-        (Collation::Binary, Plain::Int(i64::MAX), Plain::Text(b""), Ordering::Less),
-        (Collation::Binary, Plain::Text(b"z"), Plain::Blob(b""), Ordering::Less),
-        (Collation::Binary, Plain::Int(1), Plain::Dec(10000), Ordering::Equal),
-        (Collation::Binary, Plain::Int(1), Plain::Dec(10001), Ordering::Less),
-        (Collation::Binary, Plain::Dec(-5001), Plain::Int(0), Ordering::Less),
-        (Collation::Binary, Plain::Int(i64::MAX), Plain::Dec(999_999_999_999_999), Ordering::Greater),
-        (Collation::Binary, Plain::Int(2), Plain::Int(10), Ordering::Less),
-        (Collation::Binary, Plain::Text(b"2"), Plain::Text(b"10"), Ordering::Greater),
-        (Collation::Binary, Plain::Text(b"a"), Plain::Text(b"A"), Ordering::Greater),
-        (Collation::Nocase, Plain::Text(b"aZ"), Plain::Text(b"Az"), Ordering::Equal),
-        (Collation::Nocase, Plain::Text(b"["), Plain::Text(b"a"), Ordering::Less),
-        (Collation::Nocase, Plain::Text(b"\xC3\xA4"), Plain::Text(b"\xC3\x84"), Ordering::Greater),
-        (Collation::Rtrim, Plain::Text(b"a  "), Plain::Text(b"a"), Ordering::Equal),
-        (Collation::Rtrim, Plain::Text(b"a b "), Plain::Text(b"a  b"), Ordering::Greater),
-        (Collation::Rtrim, Plain::Text(b"a\t"), Plain::Text(b"a"), Ordering::Greater),
-        (Collation::Rtrim, Plain::Text(b"A"), Plain::Text(b"a"), Ordering::Less),
-        (Collation::Nocase, Plain::Blob(b"A"), Plain::Blob(b"a"), Ordering::Less),
-        (Collation::Rtrim, Plain::Blob(b"a "), Plain::Blob(b"a"), Ordering::Greater),
+        (
+            Collation::Binary,
+            Plain::Null,
+            Plain::Int(i64::MIN),
+            Ordering::Less,
+        ),
+        (
+            Collation::Binary,
+            Plain::Int(i64::MAX),
+            Plain::Text(b""),
+            Ordering::Less,
+        ),
+        (
+            Collation::Binary,
+            Plain::Text(b"z"),
+            Plain::Blob(b""),
+            Ordering::Less,
+        ),
+        (
+            Collation::Binary,
+            Plain::Int(1),
+            Plain::Dec(10000),
+            Ordering::Equal,
+        ),
+        (
+            Collation::Binary,
+            Plain::Int(1),
+            Plain::Dec(10001),
+            Ordering::Less,
+        ),
+        (
+            Collation::Binary,
+            Plain::Dec(-5001),
+            Plain::Int(0),
+            Ordering::Less,
+        ),
+        (
+            Collation::Binary,
+            Plain::Int(i64::MAX),
+            Plain::Dec(999_999_999_999_999),
+            Ordering::Greater,
+        ),
+        (
+            Collation::Binary,
+            Plain::Int(2),
+            Plain::Int(10),
+            Ordering::Less,
+        ),
+        (
+            Collation::Binary,
+            Plain::Text(b"2"),
+            Plain::Text(b"10"),
+            Ordering::Greater,
+        ),
+        (
+            Collation::Binary,
+            Plain::Text(b"a"),
+            Plain::Text(b"A"),
+            Ordering::Greater,
+        ),
+        (
+            Collation::Nocase,
+            Plain::Text(b"aZ"),
+            Plain::Text(b"Az"),
+            Ordering::Equal,
+        ),
+        (
+            Collation::Nocase,
+            Plain::Text(b"["),
+            Plain::Text(b"a"),
+            Ordering::Less,
+        ),
+        (
+            Collation::Nocase,
+            Plain::Text(b"\xC3\xA4"),
+            Plain::Text(b"\xC3\x84"),
+            Ordering::Greater,
+        ),
+        (
+            Collation::Rtrim,
+            Plain::Text(b"a  "),
+            Plain::Text(b"a"),
+            Ordering::Equal,
+        ),
+        (
+            Collation::Rtrim,
+            Plain::Text(b"a b "),
+            Plain::Text(b"a  b"),
+            Ordering::Greater,
+        ),
+        (
+            Collation::Rtrim,
+            Plain::Text(b"a\t"),
+            Plain::Text(b"a"),
+            Ordering::Greater,
+        ),
+        (
+            Collation::Rtrim,
+            Plain::Text(b"A"),
+            Plain::Text(b"a"),
+            Ordering::Less,
+        ),
+        (
+            Collation::Nocase,
+            Plain::Blob(b"A"),
+            Plain::Blob(b"a"),
+            Ordering::Less,
+        ),
+        (
+            Collation::Rtrim,
+            Plain::Blob(b"a "),
+            Plain::Blob(b"a"),
+            Ordering::Greater,
+        ),
     ] {
         let order = compare(coll, &value(alloc, left)?, &value(alloc, right)?);
         assert_eq!(rt; order, want, "{coll:?} {left:?} {right:?}");
@@ -101,7 +195,7 @@ fn reads_numbers(rt: HostRuntime) {
         ("-100000000000.0", None),
     ] {
         let number = read_number(text.as_bytes());
-        assert_eq!(rt; number.as_ref().map(plain), want, "{text}");
+        assert_eq!(rt; number.as_ref().map(seen), want, "{text}");
     }
 }
 
@@ -117,25 +211,49 @@ fn converts_values(rt: HostRuntime) -> Result<(), Fail> {
         (Affinity::Numeric, Plain::Dec(15000), Plain::Dec(15000)),
         (Affinity::Numeric, Plain::Blob(b"7"), Plain::Blob(b"7")),
         (Affinity::Real, Plain::Text(b"+7"), Plain::Dec(70000)),
-        (Affinity::Real, Plain::Int(99_999_999_999), Plain::Dec(999_999_999_990_000)),
-        (Affinity::Real, Plain::Int(-99_999_999_999), Plain::Dec(-999_999_999_990_000)),
-        (Affinity::Real, Plain::Int(100_000_000_000), Plain::Int(100_000_000_000)),
+        (
+            Affinity::Real,
+            Plain::Int(99_999_999_999),
+            Plain::Dec(999_999_999_990_000),
+        ),
+        (
+            Affinity::Real,
+            Plain::Int(-99_999_999_999),
+            Plain::Dec(-999_999_999_990_000),
+        ),
+        (
+            Affinity::Real,
+            Plain::Int(100_000_000_000),
+            Plain::Int(100_000_000_000),
+        ),
         (Affinity::Real, Plain::Int(i64::MIN), Plain::Int(i64::MIN)),
         (Affinity::Real, Plain::Dec(10000), Plain::Dec(10000)),
-        (Affinity::Text, Plain::Int(i64::MIN), Plain::Text(b"-9223372036854775808")),
+        (
+            Affinity::Text,
+            Plain::Int(i64::MIN),
+            Plain::Text(b"-9223372036854775808"),
+        ),
         (Affinity::Text, Plain::Dec(10000), Plain::Text(b"1.0")),
         (Affinity::Text, Plain::Dec(-2500), Plain::Text(b"-0.25")),
         (Affinity::Text, Plain::Dec(0), Plain::Text(b"0.0")),
         (Affinity::Text, Plain::Dec(1), Plain::Text(b"0.0001")),
-        (Affinity::Text, Plain::Dec(-123_450), Plain::Text(b"-12.345")),
-        (Affinity::Text, Plain::Dec(999_999_999_999_999), Plain::Text(b"99999999999.9999")),
+        (
+            Affinity::Text,
+            Plain::Dec(-123_450),
+            Plain::Text(b"-12.345"),
+        ),
+        (
+            Affinity::Text,
+            Plain::Dec(999_999_999_999_999),
+            Plain::Text(b"99999999999.9999"),
+        ),
         (Affinity::Text, Plain::Blob(b"7"), Plain::Blob(b"7")),
         (Affinity::Blob, Plain::Text(b"7"), Plain::Text(b"7")),
     ] {
         let made = apply(alloc, aff, &value(alloc, from)?)?;
-        assert_eq!(rt; plain(&made), want, "{aff:?} {from:?}");
+        assert_eq!(rt; seen(&made), want, "{aff:?} {from:?}");
         let made = convert(alloc, aff, value(alloc, from)?)?;
-        assert_eq!(rt; plain(&made), want, "{aff:?} {from:?}");
+        assert_eq!(rt; seen(&made), want, "{aff:?} {from:?}");
     }
     Ok(())
 }
@@ -221,7 +339,7 @@ fn makes_and_copies(rt: HostRuntime) -> Result<(), Fail> {
     text.push(b'c')?;
     text.append(b"de")?;
     let text = Value::Text(text);
-    assert_eq!(rt; plain(&text.try_copy(alloc)?), Plain::Text(b"abcde"));
+    assert_eq!(rt; seen(&text.try_copy(alloc)?), Plain::Text(b"abcde"));
     let mut values = Values::new(alloc);
     values.push(text)?;
     assert_eq!(rt; values.as_slice().len(), 1);

@@ -1,9 +1,8 @@
 //! Values, their types, and lists of them.
 ghost use Rattle.std.specs.Prelude.{◌≡◌, IfOk};
 
-use std::alloc::Global;
-
 use crate::items::{Bytes, Items, Memory};
+use std::alloc::Global;
 
 /// A value of a row, a constant or a result.
 ///

@@ -1,4 +1,4 @@
-use Rattle.std.proofs.Common.{◌≡◌, sym, arith, rules}
+use Rattle.std.proofs.Common.{sym, arith}
 use Rattle.sql_value.proofs.Digits.{over, at_place}
 use Rattle.sql_value.proofs.numbers.read_digits.Goals as goal
 
