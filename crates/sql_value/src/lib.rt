@@ -16,7 +16,6 @@ pub use condition::truth;
 pub use conversion::{apply, conversions, convert};
 pub use items::{Bytes, Items, Memory};
 pub use keywords::{Keyword, find_keyword, is_same_word, keyword_text};
-pub use keywords::{Keyword, find_keyword, keyword_text};
 pub use names::{fold, fold_byte};
 pub use numbers::read_number;
 pub use order::compare;
