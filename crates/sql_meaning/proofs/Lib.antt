@@ -5,6 +5,7 @@ pub mod Conversions
 pub mod Databases
 pub mod Words
 pub mod Bounds
+pub mod Runs
 pub mod Evaluation
 pub mod Seeks
 pub mod Paths

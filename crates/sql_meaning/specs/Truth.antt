@@ -1,8 +1,10 @@
 -- The truth of a value as a condition: true, false or unknown.
-use Rattle.std.specs.Prelude.{ℕ, nat_abs, Bool, not, ◌||◌, ◌==◌, if◌then◌else◌, List, [], ◌∷◌, ◌++◌, Option, Some, None}
+use Rattle.std.specs.Prelude.{◌≡◌, ℕ, nat_abs, Bool, true, not, ◌&&◌, ◌||◌, ◌==◌, if◌then◌else◌, List, [], ◌∷◌, ◌++◌, replicate, Option, Some, None}
 use Rattle.std.specs.Char.{is_ascii_digit}
 use Rattle.std.specs.List.{list_any}
+use Rattle.std.specs.Str.{all_ascii_digits}
 use Rattle.sql_meaning.specs.Values.{Value, Null, Int, Dec, Text, Blob, without_leading}
+use Rattle.sql_meaning.specs.Numbers.{Sign}
 
 abbrev pub without_sign : List ℕ → List ℕ
 without_sign [] = []
@@ -26,10 +28,29 @@ abbrev pub number_digits : List ℕ → List ℕ
 number_digits bytes = front_digits bytes ++ digits_behind_point (without_digits bytes)
 
 abbrev pub is_nonzero : ℕ → Bool
-is_nonzero digit = not (digit == 48)
+is_nonzero byte = is_ascii_digit byte && not (byte == 48)
 
--- the longest run of spaces, a sign, digits, a point and digits at the start, each of which may be
--- missing, has a digit that isn't 0
+-- none, or one
+pub data Point : List ℕ → Type 0 where
+  missing : Point []
+  there : Point (46 ∷ [])
+
+-- spaces, a sign, digits, a point and digits, each of which may be missing
+pub data NumberRun : List ℕ → Type 0 where
+  run_of : {run sign point : List ℕ} {negative : Bool} (spaces : ℕ) (digits fraction : List ℕ)
+      → Sign sign negative → all_ascii_digits digits ≡ true
+      → Point point → all_ascii_digits fraction ≡ true
+      → run ≡ replicate spaces 32 ++ (sign ++ (digits ++ (point ++ fraction))) → NumberRun run
+
+-- a run at the start, and so the longest one, has a digit from 1 to 9
+pub record HasNonzeroRun (text : List ℕ) : Type 0 where
+  pub run : List ℕ
+  pub rest : List ℕ
+  pub split : text ≡ run ++ rest
+  pub is_run : NumberRun run
+  pub nonzero : list_any is_nonzero run ≡ true
+
+-- the same, answered by the longest run
 abbrev pub is_true_text : List ℕ → Bool
 is_true_text bytes = list_any is_nonzero (number_digits (without_sign (without_leading 32 bytes)))
 

@@ -27,5 +27,5 @@ mod values;
 
 pub use values::{
     conversions_settle, declared_words_stand_in_text, numbers_are_read, order_is_total,
-    same_is_an_equivalence, written_numbers_read_back,
+    same_is_an_equivalence, truth_is_of_a_run, written_numbers_read_back,
 };

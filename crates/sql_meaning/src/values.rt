@@ -6,6 +6,7 @@ ghost use Rattle.sql_meaning.specs.Values.{Value, Null, Int, Dec, Text, Blob, Co
 ghost use Rattle.sql_meaning.specs.Numbers.{ReadsAs, read_number, dec_text};
 ghost use Rattle.sql_meaning.specs.Conversions.{converted, with_text_read, IsFixed, is_numeric};
 ghost use Rattle.sql_meaning.specs.DeclaredTypes.{holds_word};
+ghost use Rattle.sql_meaning.specs.Truth.{is_true_text, HasNonzeroRun};
 
 /// Values under a collation are in a total order up to values that compare as the same.
 pub fn order_is_total()
@@ -52,6 +53,12 @@ pub fn conversions_settle()
         (aff : Affinity) → is_numeric (Some aff) ≡ true → (coll : Collation) → (text : List ℕ) → (v : Value) → ReadsAs text v → Same coll (converted aff (Text text)) v
     }
     ensures bounds { (aff : Affinity) → (v : Value) → IsValue v → IsValue (converted aff v) }
+{}
+
+/// A text is true exactly where a run of spaces, a sign, digits, a point and digits at its start, each
+/// of which may be missing, has a digit from 1 to 9.
+pub fn truth_is_of_a_run()
+    ensures { (text : List ℕ) → (is_true_text text ≡ true) ↔ HasNonzeroRun text }
 {}
 
 /// A word is found in a text exactly where it stands in it.
