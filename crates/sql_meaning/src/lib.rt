@@ -9,6 +9,7 @@ mod conditions;
 mod derivations;
 mod nested_loops;
 mod offering;
+mod values;
 mod walks;
 
 pub use conditions::{conjuncts_say_their_conditions, values_depend_on_named_items};
@@ -20,12 +21,11 @@ pub use offering::{
     index_scans_are_offers, index_seeks_are_offers, rowid_seeks_are_offers, table_scans_are_offers,
     unions_are_offers,
 };
-pub use walks::{
-    consumed_conjuncts_hold, index_lists_are_sorted, unions_have_each_row_once, unions_miss_no_row,
-    walks_are_filters,
-mod values;
-
 pub use values::{
     conversions_settle, declared_words_stand_in_text, numbers_are_read, order_is_total,
     same_is_an_equivalence, truth_is_of_a_run, written_numbers_read_back,
+};
+pub use walks::{
+    consumed_conjuncts_hold, index_lists_are_sorted, unions_have_each_row_once, unions_miss_no_row,
+    walks_are_filters,
 };
