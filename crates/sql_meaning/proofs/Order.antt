@@ -22,9 +22,10 @@ tied_cases r Equal e f g = e
 tied_cases r Greater e f g = absurd (f e)
 
 pub ties : (coll : Collation) (v w : Value) → Same coll v w ↔ ((Before coll v w → ⊥) × (Before coll w v → ⊥))
-ties coll v w =
-    (λ e. (λ l. no_less (sym l ∙ e), λ l. no_less (sym l ∙ tied_back (value_cmp_total coll) v w e)),
-    λ h. tied_cases (value_cmp coll v w) (value_cmp coll w v) ((value_cmp_total coll).antisymm v w) h.0 h.1)
+ties coll v w = (
+  λ e. (λ l. no_less (sym l ∙ e), λ l. no_less (sym l ∙ tied_back (value_cmp_total coll) v w e)),
+  λ h. tied_cases (value_cmp coll v w) (value_cmp coll w v) ((value_cmp_total coll).antisymm v w) h.0 h.1,
+)
 
 pub same_reflexive : (coll : Collation) (v : Value) → Same coll v v
 same_reflexive coll = tied_itself (value_cmp_total coll)
