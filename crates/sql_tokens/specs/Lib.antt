@@ -2,3 +2,5 @@ pub mod Characters
 pub mod Runs
 pub mod Pieces
 pub mod Tokens
+pub mod Symbols
+pub mod Terminals

@@ -7,7 +7,11 @@ mod numbers;
 mod pieces;
 mod quotes;
 mod runs;
+mod symbols;
+mod terminal;
 mod token;
 
 pub use cut::lex;
+pub use symbols::{Symbol, find_symbol};
+pub use terminal::{Terminal, terminal_at, token_text};
 pub use token::{Token, TokenKind, Tokens};
