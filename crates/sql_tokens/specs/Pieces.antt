@@ -131,7 +131,7 @@ unfoldable pub piece_from : ℕ → List ℕ → List ℕ → Piece
 piece_from b bs all =
     cond (is_space_byte b) (skipped (1 + prefix_len is_space_byte bs))
     (cond (b == 45 && begins 45 bs)
-      (skipped (2 + prefix_len (λ c. not (c == 10)) (drop 1 bs)))
+    (skipped (2 + prefix_len (λ c. not (c == 10)) (drop 1 bs)))
     (cond (b == 47 && begins 42 bs) (skipped (2 + comment_len (drop 1 bs)))
     (cond (b == 39) (quoted_at kind.Text 39 all)
     (cond ((b == 120 || b == 88) && begins 39 bs) (blob_at all)

@@ -2,21 +2,18 @@
 ghost use Rattle.std.specs.Prelude.{◌≡◌, ℕ, ◌+◌, ◌<◌, ◌≤◌, ◌^◌, ◌++◌, length, All, IfOk};
 ghost use Rattle.sql_tokens.specs.Tokens.{tokens_of_piece, tokens_of, IsWithin};
 
-use sql_value::Memory;
-use std::alloc::Global;
-
 use crate::pieces::{Piece, front_piece};
 use crate::runs::rest_from;
 use crate::token::{Token, Tokens};
+use sql_value::Memory;
+use std::alloc::Global;
 
 /// Adds the token that a piece at this place is, if it is one.
 fn push_piece(tokens: &mut Tokens, piece: Piece, start: usize) -> Result<(), Memory>
     requires { start + piece.len < 2 ^ 32 }
     ensures same { IfOk result (λ _. tokens.new ≡ tokens.old ++ tokens_of_piece piece start) }
-    ensures within {
-        (n : ℕ) → start + piece.len ≤ n → All (IsWithin n) tokens.old
-        → IfOk result (λ _. All (IsWithin n) tokens.new)
-    }
+    ensures within { (n : ℕ) → start + piece.len ≤ n → All (IsWithin n) tokens.old
+        → IfOk result (λ _. All (IsWithin n) tokens.new) }
 {
     match piece.kind {
         Some(kind) => tokens.push(Token {

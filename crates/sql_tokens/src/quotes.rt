@@ -24,7 +24,11 @@ fn closing_run(quote: u8, bytes: &[u8]) -> Option<usize>
             behind_quote = *byte == quote;
         }
     }
-    if behind_quote { Some(bytes.len()) } else { None }
+    if behind_quote {
+        Some(bytes.len())
+    } else {
+        None
+    }
 }
 
 /// The quoted form that begins with this quote, or a bad token to the end.

@@ -43,14 +43,20 @@ pub(crate) fn digit_run(bytes: &[u8]) -> usize
     ensures inside { result ≤ length bytes.now }
     ensures same { result ≡ prefix_len is_ascii_digit bytes.now }
 {
-    bytes.iter().take_while(|byte| byte.is_ascii_digit()).count()
+    bytes
+        .iter()
+        .take_while(|byte| byte.is_ascii_digit())
+        .count()
 }
 
 pub(crate) fn hex_run(bytes: &[u8]) -> usize
     ensures inside { result ≤ length bytes.now }
     ensures same { result ≡ prefix_len is_ascii_hexdigit bytes.now }
 {
-    bytes.iter().take_while(|byte| byte.is_ascii_hexdigit()).count()
+    bytes
+        .iter()
+        .take_while(|byte| byte.is_ascii_hexdigit())
+        .count()
 }
 
 /// The bytes of a line, without its line feed.
