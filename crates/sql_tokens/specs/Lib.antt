@@ -4,3 +4,4 @@ pub mod Pieces
 pub mod Tokens
 pub mod Symbols
 pub mod Terminals
+pub mod TokenValues

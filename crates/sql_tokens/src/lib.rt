@@ -10,8 +10,10 @@ mod runs;
 mod symbols;
 mod terminal;
 mod token;
+mod values;
 
 pub use cut::lex;
 pub use symbols::{Symbol, find_symbol};
 pub use terminal::{Terminal, terminal_at, token_text};
 pub use token::{Token, TokenKind, Tokens};
+pub use values::token_value;
