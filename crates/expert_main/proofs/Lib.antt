@@ -1,2 +1,3 @@
 mod FormLemmas
 mod Lines
+pub mod Scanning

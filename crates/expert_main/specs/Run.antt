@@ -1,5 +1,5 @@
 -- What the program answers and writes: a function of its words and of the files.
-use Rattle.std.specs.Prelude.{ℕ, ◌||◌, List, [], ◌∷◌, length, nat_lt, None, Some, if◌then◌else◌, codes}
+use Rattle.std.specs.Prelude.{ℕ, ◌≡◌, ◌||◌, IsSomeAnd, List, [], ◌∷◌, length, nat_lt, None, Some, if◌then◌else◌, codes}
 use Rattle.std.specs.declared.option.Option.{Option}
 use Rattle.std.specs.Str.{bytes_eq}
 use Rattle.expert_io.specs.Told.{file_of}
@@ -53,3 +53,19 @@ run_command files (Some command) = run_database command (file_of files command.d
 -- what the program does with its words, over these files
 abbrev pub run : List (List ℕ) → List (List ℕ × List ℕ) → Ran
 run words files = run_command files (command_of words)
+
+abbrev pub scanned_in : Command → Option (List ℕ) → Option Scan
+scanned_in command None = None
+scanned_in command (Some database) = scan_of command.script database
+
+abbrev pub scanned_by : List (List ℕ × List ℕ) → Option Command → Option Scan
+scanned_by files None = None
+scanned_by files (Some command) = scanned_in command (file_of files command.database)
+
+-- the scan on which the program reports
+abbrev pub scanned : List (List ℕ) → List (List ℕ × List ℕ) → Option Scan
+scanned words files = scanned_by files (command_of words)
+
+-- what was written is the report on that scan
+abbrev pub ReportsScan : List (List ℕ) → List (List ℕ × List ℕ) → List ℕ → Type 0
+ReportsScan words files out = IsSomeAnd (scanned words files) (λ scan. out ≡ report_of scan.table)

@@ -5,7 +5,9 @@ ghost use Rattle.expert_io.specs.Faults.{Rose, Stood};
 ghost use Rattle.expert_io.specs.Told.{Lacks};
 ghost use Rattle.expert_io.specs.Written.{AppendsProperPrefix};
 ghost use Rattle.expert_main.specs.Lines.{not_built_line};
-ghost use Rattle.expert_main.specs.Run.{run, refused, command_of, answered};
+ghost use Rattle.expert_main.specs.Report.{report_of};
+ghost use Rattle.expert_main.specs.Run.{run, refused, command_of, answered, scanned, ReportsScan};
+ghost use Rattle.expert_main.specs.Scanning.{MeansItsStatement};
 ghost use Rattle.expert_main.specs.Refusals.{status_of, line_of, WritesLine, Gives};
 ghost use Rattle.expert_main.specs.Causes.{database_of, line_after};
 
@@ -41,6 +43,8 @@ fn prepare<'a, F: Shelf>(
 
     ensures command { OnOk result (IsSome (command_of words.now)) }
     ensures usage { IfErr result (λ refusal. (status_of refusal ≡ 1) ↔ (command_of words.now ≡ None)) }
+
+    ensures scanned { IfOk result (λ report. IfSome (F.files shelf.old) (λ files. ReportsScan words.now files report)) }
 
     ensures kept { OnOk result (F.faults shelf.new ≡ F.faults shelf.old) }
     ensures read_only { IfErr result (λ refusal. status_of refusal ≡ 4 →
@@ -87,6 +91,8 @@ fn attempt<'a, F: Shelf, O: Sink>(
     ensures told { IfErr result (λ refusal. Stood (F.faults shelf.old) (F.faults shelf.new)
         → Stood (O.faults out.old) (O.faults out.new) → status_of refusal ≢ 6 →
         IfSome (F.files shelf.old) (λ files. run words.now files ≡ refused (status_of refusal) (line_of refusal))) }
+    ensures scanned { OnOk result (IfSome (F.files shelf.old) (λ files.
+        ReportsScan words.now files (run words.now files).out)) }
     ensures whole { OnOk result (IfSome (F.files shelf.old) (λ files. ((run words.now files).err ≡ []))) }
     ensures refused { IfErr result (λ refusal. status_of refusal ≡ 2 → IfSome (F.files shelf.old) (λ files.
         run words.now files ≡ refused 2 not_built_line)) }
@@ -151,6 +157,10 @@ pub fn expert<F: Shelf, O: Sink, E: Sink>(
     ensures exactly { Stood (F.faults shelf.old) (F.faults shelf.new) → Stood (O.faults out.old) (O.faults out.new)
         → result ≢ 6 → IfSome (F.files shelf.old) (λ files. result ≡ (run words.now files).status) }
     ensures known { (result ≤ 6) × (result ≢ 3) }
+
+    // On every database of the schema the printed plan gives the rows that the statement asks for.
+    ensures meaning { result ≡ 0 → IfSome (F.files shelf.old) (λ files. IsSomeAnd (scanned words.now files) (λ scan.
+        ((run words.now files).out ≡ report_of scan.table) × MeansItsStatement scan)) }
 
     // Over files that tell nothing of themselves too: what was written is the report on some bytes.
     ensures read { result ≡ 0 → (database : List ℕ)
