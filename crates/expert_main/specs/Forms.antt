@@ -65,7 +65,7 @@ table_with name (Some columns) =
 abbrev pub table_in : List Mark → Option Scan
 table_in (word create ∷ word table ∷ word name ∷ symbol s ∷ marks) =
     if same_word create (codes "CREATE") && same_word table (codes "TABLE")
-        && not (is_reserved_name name || is_internal name) && bytes_eq s (codes "(")
+    && not (is_reserved_name name || is_internal name) && bytes_eq s (codes "(")
     then table_with name (columns_in marks) else None
 table_in marks = None
 
@@ -73,7 +73,7 @@ table_in marks = None
 abbrev pub selected_in : List Mark → Option (List ℕ)
 selected_in (word select ∷ symbol s ∷ word from ∷ word name ∷ marks) =
     if same_word select (codes "SELECT") && bytes_eq s (codes "*") && same_word from (codes "FROM")
-        && not (is_reserved_name name) && ends marks
+    && not (is_reserved_name name) && ends marks
     then Some name else None
 selected_in marks = None
 

@@ -65,8 +65,8 @@ fn front_column<'a>(text: &'a [u8], tokens: &[Token]) -> Option<Front<'a>>
     requires { All (IsWithin (length text.now)) tokens.now }
     ensures column { MatchOption result (columns_in (map (mark_of text.now) tokens.now) ≡ None)
         (λ front. columns_in (map (mark_of text.now) tokens.now)
-            ≡ (if front.is_last then Some (front.name.now ∷ [])
-                else before front.name.now (columns_in (map (mark_of text.now) (drop 2 tokens.now))))) }
+        ≡ (if front.is_last then Some (front.name.now ∷ [])
+        else before front.name.now (columns_in (map (mark_of text.now) (drop 2 tokens.now))))) }
     ensures two { IfSome result (λ _. 2 ≤ length tokens.now) }
 {
     let [name, separator, ..] = tokens else {
@@ -160,7 +160,7 @@ fn created_table<'a>(
     ensures { IfOk result (λ found. MatchOption found
         (table_in (map (mark_of text.now) tokens.now) ≡ None)
         (λ name. IfSome (table_in (map (mark_of text.now) tokens.now)) (λ scan. scan.table ≡ name.now)
-            × IsSome (table_in (map (mark_of text.now) tokens.now)))) }
+        × IsSome (table_in (map (mark_of text.now) tokens.now)))) }
 {
     let [create, table, name, open, ..] = tokens else {
         return Ok(None);
@@ -218,7 +218,7 @@ fn table<'a>(alloc: Global, database: &'a [u8]) -> Result<Option<&'a [u8]>, Memo
     requires { length database.now < 2 ^ 32 }
     ensures { IfOk result (λ found. MatchOption found (table_of database.now ≡ None)
         (λ name. IfSome (table_of database.now) (λ scan. scan.table ≡ name.now)
-            × IsSome (table_of database.now))) }
+        × IsSome (table_of database.now))) }
 {
     if !is_plain_text(database) {
         return Ok(None);
@@ -251,7 +251,7 @@ pub fn scanned_table<'a>(
     requires database { length database.now < 2 ^ 32 }
     ensures { IfOk result (λ found. MatchOption found (scan_of script.now database.now ≡ None)
         (λ name. IfSome (scan_of script.now database.now) (λ scan. scan.table ≡ name.now)
-            × IsSome (scan_of script.now database.now))) }
+        × IsSome (scan_of script.now database.now))) }
 {
     let Some(name) = selected(alloc, script)? else {
         return Ok(None);
@@ -259,5 +259,9 @@ pub fn scanned_table<'a>(
     let Some(table) = table(alloc, database)? else {
         return Ok(None);
     };
-    Ok(if is_same_word(name, table) { Some(table) } else { None })
+    Ok(if is_same_word(name, table) {
+        Some(table)
+    } else {
+        None
+    })
 }

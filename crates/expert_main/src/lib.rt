@@ -10,3 +10,5 @@ mod words;
 
 pub use top::expert;
 
+#[cfg(test)]
+mod tests;

@@ -7,6 +7,6 @@ use Rattle.expert_main.proofs.forms.columns.Goals as goal
 pub loop-front-preserved : goal.loop-front-preserved
 loop-front-preserved c = (
   one_more _ _ _ _ _ _ c.in-Some.front.name c.loop-front.invariant.0 (search rules)
-  c.in_ok-push.ensures.ok,
+      c.in_ok-push.ensures.ok,
   rw c.behind-rest.ensures (All-drop (IsWithin (length c.args.text.now)) 2 _ c.loop-front.invariant.1),
 )

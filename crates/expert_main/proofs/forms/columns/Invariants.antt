@@ -7,7 +7,7 @@ use Rattle.expert_main.proofs.forms.columns.Given as goal
 abbrev pub invariant-loop-front : goal.invariant-loop-front
 invariant-loop-front l =
     (columns_in (map (mark_of l.text) l.tokens)
-        ≡ after (map (λ n. n.now) l.names) (columns_in (map (mark_of l.text) l.rest)))
+    ≡ after (map (λ n. n.now) l.names) (columns_in (map (mark_of l.text) l.rest)))
     × All (IsWithin (length l.text)) l.rest
 
 abbrev pub decreases-loop-front : goal.decreases-loop-front
