@@ -3,7 +3,8 @@ use Rattle.std.specs.Ordering.{is_eq, is_le, eq_by_cmp}
 use Rattle.std.specs.declared.cmp.Ordering.{Ordering}
 use Rattle.std.specs.declared.cmp.Ordering.TheVariants.{Less, Equal, Greater}
 use Rattle.std.specs.Cmp.{IsEquivalence, IsTotalOrder}
-use Rattle.std.proofs.Common.{Bool, true, false, cond, List, [], ◌∷◌, ◌≡◌, ◌||◌, refl, sym, ◌∙◌, ℕ, ◌≤◌, arith}
+use Rattle.std.proofs.Common.{Bool, true, false, cond, List, [], ◌∷◌, ◌≡◌, ◌||◌, refl, sym, ◌∙◌, ℕ}
+use Rattle.std.proofs.Common.{◌≤◌, arith}
 use Rattle.std.proofs.lemmas.Cmp.{eq_by_cmp_equiv}
 use Rattle.list_laws.specs.FirstComing.{has, keep_first, ties_any}
 use Rattle.list_laws.specs.Order.{RisesStrictly, Ascends, sort_by}

@@ -3,7 +3,8 @@ use Rattle.std.specs.Ordering.{is_eq, is_le, ordering_reverse, on}
 use Rattle.std.specs.declared.cmp.Ordering.{Ordering}
 use Rattle.std.specs.declared.cmp.Ordering.TheVariants.{Less, Equal, Greater}
 use Rattle.std.specs.Cmp.{IsTotalOrder}
-use Rattle.std.proofs.Common.{◌≡◌, Bool, true, false, List, [], ◌∷◌, cond, ◌++◌, refl, ap, ◌||◌, ◌∙◌, sym}
+use Rattle.std.proofs.Common.{◌≡◌, Bool, true, false, List, [], ◌∷◌, cond, ◌++◌, refl, ap, ◌||◌}
+use Rattle.std.proofs.Common.{◌∙◌, sym}
 use Rattle.std.proofs.lemmas.Cmp.{alike_right, tied_itself}
 use Rattle.list_laws.specs.FirstComing.{ties_any}
 use Rattle.list_laws.specs.Order.{Ascends, RisesStrictly}

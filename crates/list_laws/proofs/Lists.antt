@@ -1,5 +1,6 @@
 use Rattle.std.specs.List.{AllByRecursion, flat_map, filter}
-use Rattle.std.proofs.Common.{List, [], ◌∷◌, ◌++◌, ◌≡◌, ◌≢◌, ℕ, zero, suc, refl, ap, set, Bool, true, false, cond, ◌&&◌, ◌∙◌}
+use Rattle.std.proofs.Common.{List, [], ◌∷◌, ◌++◌, ◌≡◌, ◌≢◌, ℕ, zero, suc, refl, ap, set, Bool}
+use Rattle.std.proofs.Common.{true, false, cond, ◌&&◌, ◌∙◌}
 use Rattle.std.proofs.lemmas.List.Elements.{filter-append}
 use Rattle.list_laws.specs.Nest.{Env, Agree}
 

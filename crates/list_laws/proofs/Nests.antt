@@ -1,11 +1,16 @@
 use Rattle.std.specs.List.{AllByRecursion, filter, flat_map}
-use Rattle.std.proofs.Common.{◌≡◌, ◌≢◌, ℕ, List, None, get_or, refl, sym, get_or-set_other, [], ◌∷◌, ◌∙◌, Bool, true, false, cond, ◌&&◌, ap, Some, ◌++◌}
+use Rattle.std.proofs.Common.{◌≡◌, ◌≢◌, ℕ, List, None, get_or, refl, sym, get_or-set_other, [], ◌∷◌}
+use Rattle.std.proofs.Common.{◌∙◌, Bool, true, false, cond, ◌&&◌, ap, Some, ◌++◌}
 use Rattle.std.proofs.lemmas.List.{length-set}
 use Rattle.std.proofs.lemmas.List.Elements.{filter_agree}
-use Rattle.list_laws.specs.Nest.{Env, place, product, Agree, Apart, Step, nested, kept, step_items, IsStep, Inside, AreSteps, Distinct, Rearranges, same, next, swapped, after, AreFree, all_hold, IsPartOf}
+use Rattle.list_laws.specs.Nest.{Env, place, product, Agree, Apart, Step, nested, kept, step_items}
+use Rattle.list_laws.specs.Nest.{IsStep, Inside, AreSteps, Distinct, Rearranges, same, next}
+use Rattle.list_laws.specs.Nest.{swapped, after, AreFree, all_hold, IsPartOf}
 use Rattle.list_laws.specs.Tally.{tally, SameTally}
-use Rattle.list_laws.proofs.Lists.{all_map, all_always, all_flat_map, set_exchange, filter-flat_map, flat_map_same, filter-filter, agree_first, agree_second}
-use Rattle.list_laws.proofs.Tallies.{tally_zero, tally-filter, tally_agree, tally-flat_map, tally_same, tally_exchange, SameTally-filter}
+use Rattle.list_laws.proofs.Lists.{all_map, all_always, all_flat_map, set_exchange, filter-flat_map}
+use Rattle.list_laws.proofs.Lists.{flat_map_same, filter-filter, agree_first, agree_second}
+use Rattle.list_laws.proofs.Tallies.{tally_zero, tally-filter, tally_agree, tally-flat_map}
+use Rattle.list_laws.proofs.Tallies.{tally_same, tally_exchange, SameTally-filter}
 
 -- a is env but for these items
 abbrev pub Differs : {X : Type 0} → List ℕ → Env X → Env X → Type 0
@@ -211,7 +216,8 @@ block_law {X} rows free cs block ts order left G re inside distinct apart steps 
         each = λ f.
             (flat_map_on (nested ts) (λ g. filter (kept ts) (product rows order g)) G
             (all_map _ _ G
-            (λ g h. nested_in_order rows free ts order left g re h distinct apart steps) inside)).each f
+            (λ g h. nested_in_order rows free ts order left g re h distinct apart steps)
+            inside)).each f
             ∙ ap (tally f)
             (flat_map_same _ _ G
             (λ g. sym
@@ -222,7 +228,8 @@ block_law {X} rows free cs block ts order left G re inside distinct apart steps 
       };
       left_out = λ h e a agrees.
           not_both (all_hold cs a) (kept ts a) (kept ts h) (sound a)
-          (kept_looks rows ts left h a steps (all_reorders _ _ _ re (agree_first order left h a agrees))
+          (kept_looks rows ts left h a steps
+          (all_reorders _ _ _ re (agree_first order left h a agrees))
           (agree_second order left h a agrees)) e;
     }
 

@@ -1,9 +1,11 @@
-use Rattle.std.specs.Ordering.{is_le, is_gt, ordering_reverse, ordering_then, is_lt, then_cmp, on, is_eq}
+use Rattle.std.specs.Ordering.{is_le, is_gt, ordering_reverse, ordering_then, is_lt, then_cmp, on}
+use Rattle.std.specs.Ordering.{is_eq}
 use Rattle.std.specs.declared.cmp.Ordering.{Ordering}
 use Rattle.std.specs.List.{AllByRecursion, filter}
 use Rattle.std.specs.declared.cmp.Ordering.TheVariants.{Less, Equal, Greater}
 use Rattle.std.specs.Cmp.{IsTotalOrder}
-use Rattle.std.proofs.Common.{◌≡◌, Bool, true, List, [], ◌∷◌, ℕ, ◌+◌, false, cond, refl, arith, ap, ◌∙◌, sym, subst, not, ◌&&◌}
+use Rattle.std.proofs.Common.{◌≡◌, Bool, true, List, [], ◌∷◌, ℕ, ◌+◌, false, cond, refl, arith, ap}
+use Rattle.std.proofs.Common.{◌∙◌, sym, subst, not, ◌&&◌}
 use Rattle.std.proofs.lemmas.Cmp.{upto, tied_back}
 use Rattle.std.proofs.lemmas.List.Elements.{filter_agree}
 use Rattle.list_laws.specs.Order.{Ascends, insert_by, sort_by}

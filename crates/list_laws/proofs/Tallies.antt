@@ -1,5 +1,6 @@
 use Rattle.std.specs.List.{flat_map, filter, AllByRecursion}
-use Rattle.std.proofs.Common.{◌≡◌, ℕ, ◌+◌, List, [], ◌∷◌, ◌++◌, arith, refl, ap, ◌∙◌, Bool, true, false, cond, map, sym}
+use Rattle.std.proofs.Common.{◌≡◌, ℕ, ◌+◌, List, [], ◌∷◌, ◌++◌, arith, refl, ap, ◌∙◌, Bool, true}
+use Rattle.std.proofs.Common.{false, cond, map, sym}
 use Rattle.list_laws.specs.Tally.{tally, SameTally}
 
 pub tally-append : {X : Type 0} (f : X → ℕ) (xs ys : List X)

@@ -1,6 +1,7 @@
 use Rattle.std.specs.Cmp.{IsEquivalence}
 use Rattle.std.specs.List.{AllByRecursion, filter, flat_map}
-use Rattle.std.proofs.Common.{◌≡◌, Bool, true, List, [], ◌∷◌, refl, ◌∙◌, ℕ, false, cond, not, ◌&&◌, ◌||◌, ◌+◌, arith, ap, sym, ◌++◌, ◌≤◌, zero-add}
+use Rattle.std.proofs.Common.{◌≡◌, Bool, true, List, [], ◌∷◌, refl, ◌∙◌, ℕ, false, cond, not, ◌&&◌}
+use Rattle.std.proofs.Common.{◌||◌, ◌+◌, arith, ap, sym, ◌++◌, ◌≤◌, zero-add}
 use Rattle.list_laws.specs.FirstComing.{has, keep_first, IsOnce}
 use Rattle.list_laws.specs.Tally.{tally, SameTally}
 use Rattle.list_laws.proofs.Tallies.{tally_same, tally_add, tally_zero, tally-filter, tally_agree}

@@ -1,5 +1,6 @@
 -- Nested loops: each places a row of its item for each assignment of the loops outside it.
-use Rattle.std.specs.Prelude.{List, Option, ℕ, Some, slice_set, Bool, true, false, cond, [], ◌∷◌, ◌≡◌, None, slice_index_or, ◌≢◌, ◌&&◌, ◌<◌, length}
+use Rattle.std.specs.Prelude.{List, Option, ℕ, Some, slice_set, Bool, true, false, cond, [], ◌∷◌}
+use Rattle.std.specs.Prelude.{◌≡◌, None, slice_index_or, ◌≢◌, ◌&&◌, ◌<◌, length}
 use Rattle.std.specs.List.{AllByRecursion, flat_map, filter}
 use Rattle.list_laws.specs.Tally.{SameTally}
 

@@ -2,7 +2,8 @@
 use Rattle.std.specs.Prelude.{◌≡◌, ℕ, Bool, true, List, [], ◌++◌}
 use Rattle.std.specs.List.{AllByRecursion, flat_map, filter}
 use Rattle.list_laws.specs.Tally.{SameTally}
-use Rattle.list_laws.specs.Nest.{Env, all_hold, Step, nested, product, Rearranges, AreFree, kept, step_items, AreSteps, Distinct, Apart, Inside, IsPartOf}
+use Rattle.list_laws.specs.Nest.{Env, all_hold, Step, nested, product, Rearranges, AreFree, kept}
+use Rattle.list_laws.specs.Nest.{step_items, AreSteps, Distinct, Apart, Inside, IsPartOf}
 
 -- loops that keep their word find the members of the product that all of them keep, as often,
 -- where only free items change places

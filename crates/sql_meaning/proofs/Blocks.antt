@@ -43,26 +43,22 @@ fails_case : (p : Conjunct → Bool) (params : List Value) (c : Conjunct) (cs : 
 fails_case p params c cs a ih true false e g f =
     record { number = 0; conjunct = c; is = refl; is_chosen = e; fails = g }
 fails_case p params c cs a ih true true e g f =
-    let r =
-    ih f in
+    let r = ih f in
     record {
       number = suc r.number;
       conjunct = r.conjunct;
       is = r.is;
       is_chosen = r.is_chosen;
-      fails =
-          r.fails;
+      fails = r.fails;
     }
 fails_case p params c cs a ih false h e g f =
-    let r =
-    ih f in
+    let r = ih f in
     record {
       number = suc r.number;
       conjunct = r.conjunct;
       is = r.is;
       is_chosen = r.is_chosen;
-      fails =
-          r.fails;
+      fails = r.fails;
     }
 
 some_fails : (p : Conjunct → Bool) (params : List Value) (cs : List Conjunct) (a : Assignment)

@@ -1,13 +1,13 @@
 -- Conversion keeps the bounds of values.
-use Rattle.std.proofs.Common.{◌≡◌, ℕ, zero, suc, ◌+◌, ◌*◌, ◌/◌, ◌%◌, ◌^◌, ◌<◌, ℤ, pos, negsuc, neg_ℤ, ◌*ℤ◌, unsigned_abs, int_div, int_rem, Bool, true, false, ◌&&◌, ◌==◌, nat_lt, if◌then◌else◌, List, [], ◌∷◌, ◌++◌, Option, Some, None, refl, ap, arith, decimal}
 use Rattle.std.specs.Char.{is_ascii_digit}
 use Rattle.std.specs.Fmt.{signed_decimal, sign_text}
 use Rattle.std.specs.Int.{is_negative}
 use Rattle.std.specs.Str.{all_ascii_digits}
+use Rattle.std.proofs.Common.{◌≡◌, ℕ, suc, ◌/◌, ◌%◌, ◌^◌, ◌<◌, ℤ, pos, negsuc, ◌*ℤ◌, unsigned_abs, int_div, int_rem, Bool, true, false, ◌==◌, nat_lt, if◌then◌else◌, List, [], ◌∷◌, ◌++◌, Option, Some, None, refl, arith, decimal}
 use Rattle.std.proofs.lemmas.Bool.{ltb-true}
 use Rattle.std.proofs.lemmas.Int.{unsigned_abs-mul}
 use Rattle.sql_meaning.specs.Values.{Value, Null, Int, Dec, Text, Blob, Affinity, Integer, Real, Numeric, TextAffinity, BlobAffinity, IsI64, IsBytes, IsValue}
-use Rattle.sql_meaning.specs.Numbers.{read_number, dec_text, fraction_text, signed}
+use Rattle.sql_meaning.specs.Numbers.{read_number, dec_text, fraction_text}
 use Rattle.sql_meaning.specs.Conversions.{with_text_read, narrowed, widened, written, converted}
 use Rattle.sql_meaning.proofs.Reading.{sound, read_is_value, of_decimal, of_fraction, and_left, and_right, signed_size}
 

@@ -103,24 +103,27 @@ may_use placed alias c t at h =
     may_case alias c t (is_alias alias c.column) refl at (and_right (is_usable placed t) _ h)
 
 -- what is taken: the path carries it, and each used term is usable and one of the item's
-pub record IsTaken (P : Term → Type 0) (placed : List ℕ) (alias : Option ℕ) (ss : List SortColumn) (taken : Taken) :
-    Type 0 where
-  pub carries : Carries alias ss taken.eqs taken.low taken.high taken.used
-  pub usable : AllByRecursion (KeysPlaced placed) taken.used
-  pub terms : AllByRecursion P taken.used
+pub record IsTaken (P : Term → Type 0) (placed : List ℕ) (alias : Option ℕ) (ss : List SortColumn)
+    (taken : Taken) : Type 0
+  where
+    pub carries : Carries alias ss taken.eqs taken.low taken.high taken.used
+    pub usable : AllByRecursion (KeysPlaced placed) taken.used
+    pub terms : AllByRecursion P taken.used
 
 -- a bound that is taken
-pub record IsLow (P : Term → Type 0) (placed : List ℕ) (alias : Option ℕ) (s : SortColumn) (low : Option Term) :
-    Type 0 where
-  pub is : LowFrom alias s (edge_of low) (one_or_none low)
-  pub usable : AllByRecursion (KeysPlaced placed) (one_or_none low)
-  pub terms : AllByRecursion P (one_or_none low)
+pub record IsLow (P : Term → Type 0) (placed : List ℕ) (alias : Option ℕ) (s : SortColumn)
+    (low : Option Term) : Type 0
+  where
+    pub is : LowFrom alias s (edge_of low) (one_or_none low)
+    pub usable : AllByRecursion (KeysPlaced placed) (one_or_none low)
+    pub terms : AllByRecursion P (one_or_none low)
 
-pub record IsHigh (P : Term → Type 0) (placed : List ℕ) (alias : Option ℕ) (s : SortColumn) (high : Option Term) :
-    Type 0 where
-  pub is : HighFrom alias s (edge_of high) (one_or_none high)
-  pub usable : AllByRecursion (KeysPlaced placed) (one_or_none high)
-  pub terms : AllByRecursion P (one_or_none high)
+pub record IsHigh (P : Term → Type 0) (placed : List ℕ) (alias : Option ℕ) (s : SortColumn)
+    (high : Option Term) : Type 0
+  where
+    pub is : HighFrom alias s (edge_of high) (one_or_none high)
+    pub usable : AllByRecursion (KeysPlaced placed) (one_or_none high)
+    pub terms : AllByRecursion P (one_or_none high)
 
 low_is : (P : Term → Type 0) (placed : List ℕ) (alias : Option ℕ) (s : SortColumn) (column : Site)
     (p : Term → Bool)
@@ -241,12 +244,13 @@ consumed_terms ts =
 
 -- an offer that isn't a union: its path carries its used terms, which are usable and the item's (or
 -- the branch's)
-pub record IsPlainOffer (P : Term → Type 0) (schema : Schema) (alias : Option ℕ) (placed : List ℕ) (o : Offer) :
-    Type 0 where
-  pub plain : is_union o.path ≡ false
-  pub carries : FormCarries alias (form_of schema o.path) o.used
-  pub usable : AllByRecursion (KeysPlaced placed) o.used
-  pub terms : AllByRecursion P o.used
+pub record IsPlainOffer (P : Term → Type 0) (schema : Schema) (alias : Option ℕ) (placed : List ℕ)
+    (o : Offer) : Type 0
+  where
+    pub plain : is_union o.path ≡ false
+    pub carries : FormCarries alias (form_of schema o.path) o.used
+    pub usable : AllByRecursion (KeysPlaced placed) o.used
+    pub terms : AllByRecursion P o.used
 
 seek_case : (P : Term → Type 0) (schema : Schema) (alias : Option ℕ) (placed : List ℕ) (index : ℕ)
     (taken : Taken)
@@ -295,8 +299,7 @@ range_plain P schema alias placed (Some t) high l h o f =
     let is :
     record {
       path = RowidRange (edge_of (Some t)) (edge_of high);
-      used =
-          one_or_none (Some t) ++ one_or_none high;
+      used = one_or_none (Some t) ++ one_or_none high;
     } ≡ o =
     cc in
     let b = bounds_taken P placed alias by_rowid [] (Some t) high l h in
@@ -306,8 +309,7 @@ range_plain P schema alias placed None (Some u) l h o f =
     let is :
     record {
       path = RowidRange None (edge_of (Some u));
-      used =
-          one_or_none None ++ one_or_none (Some u);
+      used = one_or_none None ++ one_or_none (Some u);
     } ≡ o =
     cc in
     let b = bounds_taken P placed alias by_rowid [] None (Some u) l h in
@@ -392,11 +394,9 @@ index_scan_offer schema bound placed item index back fits un =
     record {
       fits = fits;
       unplaced = un;
-      carries =
-          no_terms (item_alias schema bound item) (sort_columns schema index);
+      carries = no_terms (item_alias schema bound item) (sort_columns schema index);
       keys = tt;
-      comes =
-          tt;
+      comes = tt;
       consumes = tt;
     }
 
@@ -460,8 +460,7 @@ union_offer schema bound placed item back number c es os fits un is allowed any 
         branches = es;
         is = is;
         allowed = allowed;
-        any =
-            any;
+        any = any;
         terms = branches_terms schema bound c placed item es os h;
       };
   consumes = tt;

@@ -8,7 +8,7 @@ use Rattle.sql_meaning.specs.Paths.{Path, TableScan, RowidEq, IndexScan, IndexSe
 use Rattle.sql_meaning.specs.Paths.{ManyKeys}
 use Rattle.sql_meaning.specs.Statements.{Bound, SortKey, Count}
 use Rattle.sql_meaning.specs.Plans.{Loop}
-use Rattle.sql_meaning.specs.OrderState.{State, Done, Lost, Open, state, directions}
+use Rattle.sql_meaning.specs.OrderState.{state_number, State, Done, Lost, Open, state, directions}
 use Rattle.sql_meaning.specs.Asked.{answer}
 use Rattle.sql_meaning.proofs.ExampleData.{int, row, table_of_columns, rising, falling, index_on}
 use Rattle.sql_meaning.proofs.ExampleData.{from, select, rising_key, number_key, one}
@@ -84,6 +84,12 @@ still_open : state schema two_items (loop 0 (RowidEq (OneKey (number_key 1))) �
     (rising_key (Column 0 1) ∷ rising_key (Column 1 0) ∷ [])
     ≡ Open (rising_key (Column 1 0) ∷ [])
 still_open = refl
+
+-- an open state is numbered by the keys that are passed
+numbered : state_number (rising_key (Column 0 1) ∷ rising_key (Column 1 0) ∷ [])
+    (Open (rising_key (Column 1 0) ∷ []))
+    ≡ 3
+numbered = refl
 
 -- `SELECT a FROM t ORDER BY a LIMIT 1 OFFSET 1` by the index, over a = 3, 1, 2
 abbrev second_row : Bound

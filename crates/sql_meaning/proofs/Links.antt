@@ -46,8 +46,7 @@ from_parts nv nw o a b e = rw (a, b, e) refl
 pub equal_back : (collation : Collation) (v w : Value) → compares IsEqual collation v w ≡ true
     → compares IsEqual collation w v ≡ true
 equal_back collation v w h =
-    let p =
-    parts_of (is_null v) (is_null w) (value_cmp collation v w) h in
+    let p = parts_of (is_null v) (is_null w) (value_cmp collation v w) h in
     from_parts (is_null w) (is_null v) (value_cmp collation w v) p.1 p.0
     (tied_back (value_cmp_total collation) v w p.2)
 

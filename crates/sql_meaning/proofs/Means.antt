@@ -81,8 +81,7 @@ consumed_served schema bound item (AllOf ts) number c comes k is =
   where
     served : IsTerm schema bound item k.1 → may_serve bound item c ≡ true
     served (inl d) =
-        let same : d.number ≡ number =
-        some_is _ _ (sym d.numbered ∙ k.3) in
+        let same : d.number ≡ number = some_is _ _ (sym d.numbered ∙ k.3) in
         ap (may_serve bound item)
         (some_is c d.conjunct (sym is ∙ ap (slice_get bound.conjuncts) (sym same) ∙ d.is))
         ∙ d.allowed
@@ -284,8 +283,7 @@ consumed_at [] number h = absurd (cc)
 consumed_at (l ∷ ls) number h =
     or_cases (has_number number l.consumed) (has_number number (consumed_by ls))
     (λ t. record { at = 0; loop = l; is = refl; consumed = t })
-    (λ t. let r =
-    consumed_at ls number t in
+    (λ t. let r = consumed_at ls number t in
     record { at = suc r.at; loop = r.loop; is = r.is; consumed = r.consumed })
     (sym (has_append number l.consumed (consumed_by ls)) ∙ h)
 

@@ -349,8 +349,7 @@ pub chosen_at : (chosen : Conjunct → Bool) (params : List Value) (cs : List Co
     → holds env params c.expr ≡ true
 chosen_at chosen params [] env number c h e t = absurd (cc)
 chosen_at chosen params (d ∷ cs) env zero c h e t =
-    let is =
-    some_is d c e in
+    let is = some_is d c e in
     subst (λ (z : Conjunct). holds env params z.expr ≡ true) is
     (unless (chosen d) (holds env params d.expr) _ h (ap chosen is ∙ t))
 chosen_at chosen params (d ∷ cs) env (suc number) c h e t =

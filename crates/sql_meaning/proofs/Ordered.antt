@@ -65,8 +65,7 @@ keys_itself : (params : List Value) (ks : List SortKey) (a : Assignment)
     → by_keys params ks a a ≡ Ties
 keys_itself params [] a = refl
 keys_itself params (k ∷ ks) a =
-    rw
-    (directed_tie k.falling k.collation (ev a params k.expr) (ev a params k.expr)
+    rw (directed_tie k.falling k.collation (ev a params k.expr) (ev a params k.expr)
     (tied_itself (value_cmp_total k.collation) (ev a params k.expr))) (keys_itself params ks a)
 
 cond_all : (P : Assignment → Type 0) (b : Bool) (xs : List Assignment) → AllByRecursion P xs
@@ -301,13 +300,14 @@ are_tied schema params alias item path env d x y lt kx ky = record {
 
 -- what a loop that leaves keys does: it passes the keys before them, in order, and strictly where
 -- some are left
-pub record IsLoopPassed (params : List Value) (env : Assignment) (item : ℕ) (rows : List (Option Row)) (keys left : List SortKey) :
-    Type 0 where
-  pub passed : List SortKey
-  pub is : keys ≡ passed ++ left
-  pub own : AllByRecursion (IsOwn item) passed
-  pub rises : Ascends (by_own params env item passed) rows
-  pub strictly : left ≢ [] → RisesStrictly (by_own params env item passed) rows
+pub record IsLoopPassed (params : List Value) (env : Assignment) (item : ℕ)
+    (rows : List (Option Row)) (keys left : List SortKey) : Type 0
+  where
+    pub passed : List SortKey
+    pub is : keys ≡ passed ++ left
+    pub own : AllByRecursion (IsOwn item) passed
+    pub rises : Ascends (by_own params env item passed) rows
+    pub strictly : left ≢ [] → RisesStrictly (by_own params env item passed) rows
 
 known_walk : (schema : Schema) (params : List Value) (alias : Option ℕ) (path : Path) (d : Bool)
     (rows : List Row) (env : Assignment)

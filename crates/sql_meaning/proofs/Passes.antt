@@ -11,23 +11,25 @@ use Rattle.sql_meaning.specs.Orders.{lex_of, same_flag}
 
 -- what is known of two rows of a walk: they tie by what is held, and a key that matches a position,
 -- in the walk's direction, compares as it
-pub record AreTied (item : ℕ) (held : SortKey → Bool) (d : Bool) (kc : SortKey → Ordering) (pc : Position → Ordering) (ps : List Position) :
-    Type 0 where
-  pub keys : (k : SortKey) → held k ≡ true → kc k ≡ Equal
-  pub positions : AllByRecursion (λ p. p.held ≡ true → pc p ≡ Equal) ps
-  pub says : (p : Position) (k : SortKey) → key_matches item p k ≡ true → needs_backward p k ≡ d
-      → kc k ≡ pc p
+pub record AreTied (item : ℕ) (held : SortKey → Bool) (d : Bool) (kc : SortKey → Ordering)
+    (pc : Position → Ordering) (ps : List Position) : Type 0
+  where
+    pub keys : (k : SortKey) → held k ≡ true → kc k ≡ Equal
+    pub positions : AllByRecursion (λ p. p.held ≡ true → pc p ≡ Equal) ps
+    pub says : (p : Position) (k : SortKey) → key_matches item p k ≡ true → needs_backward p k ≡ d
+        → kc k ≡ pc p
 
 -- the passed keys are columns of the item, and go along with the positions
-pub record IsPassed (item : ℕ) (held : SortKey → Bool) (Own : SortKey → Type 0) (d : Bool) (ps : List Position) (keys left : List SortKey) :
-    Type 0 where
-  pub passed : List SortKey
-  pub is : keys ≡ passed ++ left
-  pub own : AllByRecursion Own passed
-  pub rises : (kc : SortKey → Ordering) (pc : Position → Ordering) → AreTied item held d kc pc ps
-      → is_le (lex_of pc ps) ≡ true → is_le (lex_of kc passed) ≡ true
-  pub strictly : left ≢ [] → (kc : SortKey → Ordering) (pc : Position → Ordering)
-      → AreTied item held d kc pc ps → lex_of pc ps ≡ Less → lex_of kc passed ≡ Less
+pub record IsPassed (item : ℕ) (held : SortKey → Bool) (Own : SortKey → Type 0) (d : Bool)
+    (ps : List Position) (keys left : List SortKey) : Type 0
+  where
+    pub passed : List SortKey
+    pub is : keys ≡ passed ++ left
+    pub own : AllByRecursion Own passed
+    pub rises : (kc : SortKey → Ordering) (pc : Position → Ordering) → AreTied item held d kc pc ps
+        → is_le (lex_of pc ps) ≡ true → is_le (lex_of kc passed) ≡ true
+    pub strictly : left ≢ [] → (kc : SortKey → Ordering) (pc : Position → Ordering)
+        → AreTied item held d kc pc ps → lex_of pc ps ≡ Less → lex_of kc passed ≡ Less
 
 pub record IsFront (held : SortKey → Bool) (keys : List SortKey) : Type 0 where
   pub front : List SortKey
@@ -44,8 +46,7 @@ front_case held k ks f false e = ([], refl, tt)
 pub held_front : (held : SortKey → Bool) (keys : List SortKey) → IsFront held keys
 held_front held [] = record { front = []; is = refl; all = tt }
 held_front held (k ∷ ks) =
-    let c =
-    front_case held k ks (held_front held ks) (held k) refl in
+    let c = front_case held k ks (held_front held ks) (held k) refl in
     record { front = c.0; is = c.1; all = c.2 }
 
 front_ties : (held : SortKey → Bool) (kc : SortKey → Ordering)

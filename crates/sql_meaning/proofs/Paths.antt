@@ -24,13 +24,13 @@ use Rattle.sql_meaning.specs.Paths.{form_walk, form_holds, SeekForm, part_value,
 use Rattle.sql_meaning.specs.Paths.{TableScan, RowidEq, RowidRange, IndexScan, IndexSeek, Union}
 use Rattle.sql_meaning.specs.Paths.{form_of, path_list, walk, carried, is_union, Paths, Nowhere}
 use Rattle.sql_meaning.specs.Paths.{Then, same_rowid, walks, any_carried}
-use Rattle.sql_meaning.proofs.Seeks.{spot_cmp_total, seek_is}
+use Rattle.sql_meaning.proofs.Seeks.{column_cmp_total, seek_is}
 use Rattle.sql_meaning.proofs.Scaled.{scaled_cmp}
 
 pub entry_cmp_total : (ss : List SortColumn) → IsTotalOrder (entry_cmp ss)
 entry_cmp_total [] = on_total (λ row. row.rowid) int_cmp_total
 entry_cmp_total (s ∷ ss) =
-    then_total (on_total (site_value s.site) (spot_cmp_total s)) (entry_cmp_total ss)
+    then_total (on_total (site_value s.site) (column_cmp_total s)) (entry_cmp_total ss)
 
 less_then : (o p : Ordering) → o ≡ Less → ordering_then (ordering_then o Equal) p ≡ Less
 less_then o p e = rw e refl

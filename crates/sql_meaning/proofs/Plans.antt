@@ -351,33 +351,35 @@ loop_same : (schema : Schema) (database : Database) (bound : Bound) (params : Li
     (filter
     (λ x. chosen_hold (λ c. owned_by l.item c.owner) params bound.conjuncts (place env l.item x))
     (map Some (item_rows database bound l.item)))) (map Some (item_rows database bound l.item))))
-loop_same schema database bound params consumed placed l used env valid owners o ours lt true e = record {
-  each = λ f.
-      (missing_same _ _
-      (SameTally-filter
-      (λ x. level_test
-      (λ c. owned_by l.item c.owner) params consumed placed l.item 0 bound.conjuncts
-      (place env l.item x)) _ _
-      (walk_used schema params (item_alias schema bound l.item) l.path l.reverse
-      (item_rows database bound l.item) placed l.item env (used l) (valid.rising l.item)
-      (valid.aliased l.item) o.carries o.unplaced lt o.keys))).each f
-      ∙ ap (λ zs. tally f (or_missing zs))
-      (filter-filter _ _ (map Some (item_rows database bound l.item))
-      ∙ filter_agree _ _
-      (λ x. own_same schema bound params consumed placed l (used l) (place env l.item x) e o ours)
-      (map Some (item_rows database bound l.item)))
-      ∙ ap (tally f) (sym (all_of_true (λ x. true) _ (λ x. refl)));
-}
-loop_same schema database bound params consumed placed l used env valid owners o ours lt false e = record {
-  each = λ f.
-      ap (tally f)
-      (all_of_true _ _
-      (λ x. test_from _ params consumed placed l.item 0 bound.conjuncts (place env l.item x)
-      (none_owned bound l.item owners e params (place env l.item x))))
-      ∙ (walk_used schema params (item_alias schema bound l.item) l.path l.reverse
-      (item_rows database bound l.item) placed l.item env (used l) (valid.rising l.item)
-      (valid.aliased l.item) o.carries o.unplaced lt o.keys).each f;
-}
+loop_same schema database bound params consumed placed l used env valid owners o ours lt true e =
+    record {
+      each = λ f.
+          (missing_same _ _
+          (SameTally-filter
+          (λ x. level_test
+          (λ c. owned_by l.item c.owner) params consumed placed l.item 0 bound.conjuncts
+          (place env l.item x)) _ _
+          (walk_used schema params (item_alias schema bound l.item) l.path l.reverse
+          (item_rows database bound l.item) placed l.item env (used l) (valid.rising l.item)
+          (valid.aliased l.item) o.carries o.unplaced lt o.keys))).each f
+          ∙ ap (λ zs. tally f (or_missing zs))
+          (filter-filter _ _ (map Some (item_rows database bound l.item))
+          ∙ filter_agree _ _
+          (λ x. own_same schema bound params consumed placed l (used l) (place env l.item x) e o ours)
+          (map Some (item_rows database bound l.item)))
+          ∙ ap (tally f) (sym (all_of_true (λ x. true) _ (λ x. refl)));
+    }
+loop_same schema database bound params consumed placed l used env valid owners o ours lt false e =
+    record {
+      each = λ f.
+          ap (tally f)
+          (all_of_true _ _
+          (λ x. test_from _ params consumed placed l.item 0 bound.conjuncts (place env l.item x)
+          (none_owned bound l.item owners e params (place env l.item x))))
+          ∙ (walk_used schema params (item_alias schema bound l.item) l.path l.reverse
+          (item_rows database bound l.item) placed l.item env (used l) (valid.rising l.item)
+          (valid.aliased l.item) o.carries o.unplaced lt o.keys).each f;
+    }
 
 -- the loops of a plan are what the laws of nested walks ask
 pub are_steps : (schema : Schema) (database : Database) (bound : Bound) (params : List Value)

@@ -100,8 +100,7 @@ entry_case : (alias : Option ℕ) (c : IndexColumn) (cs : List IndexColumn) (eqs
     (record {
       site = cond b AtRowid (AtColumn c.column);
       collation = c.collation;
-      falling =
-          c.falling;
+      falling = c.falling;
       held = first_held eqs;
     } ∷ cond b [] (index_positions alias cs (rest_parts eqs))) x y
     ≡ Less

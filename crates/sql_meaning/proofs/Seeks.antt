@@ -31,8 +31,8 @@ pub directed_total : (falling : Bool) {cmp : Value → Value → Ordering} → I
 directed_total true o = back_total o
 directed_total false o = o
 
-pub spot_cmp_total : (s : SortColumn) → IsTotalOrder (column_cmp s)
-spot_cmp_total s = directed_total s.falling (value_cmp_total s.collation)
+pub column_cmp_total : (s : SortColumn) → IsTotalOrder (column_cmp s)
+column_cmp_total s = directed_total s.falling (value_cmp_total s.collation)
 
 null_less : (collation : Collation) (v k : Value) → is_null v ≡ true → is_null k ≡ false
     → value_cmp collation v k ≡ Less
@@ -295,10 +295,10 @@ stretch_walk : (s : SortColumn) (ss : List SortColumn) (walk : List Row → List
     → walk (key_stretch s key rows) ≡ filter used (filter (at_key s key) rows)
 stretch_walk s ss walk used key rows h ih =
     ap walk
-    (stretch_at (spot_cmp_total s) (site_value s.site) key rows
+    (stretch_at (column_cmp_total s) (site_value s.site) key rows
     (Ascends-first (on (site_value s.site) (column_cmp s)) (entry_cmp ss) rows h))
     ∙ ih (filter (at_key s key) rows)
-    (Ascends-at (spot_cmp_total s) (site_value s.site) key (entry_cmp ss) rows h)
+    (Ascends-at (column_cmp_total s) (site_value s.site) key (entry_cmp ss) rows h)
 
 one_case : (s : SortColumn) (ss : List SortColumn) (walk : List Row → List Row) (used : Row → Bool)
     (key : Value) (rows : List Row)
@@ -343,15 +343,16 @@ many_case s ss walk used keys rows h ih =
     flat_map_same _ _ (walked_keys s keys) (λ key. stretch_walk s ss walk used key rows h ih)
     ∙ sym (filter-flat_map used (λ key. filter (at_key s key) rows) (walked_keys s keys))
     ∙ ap (filter used)
-    (many_is (spot_cmp_total s) (site_value s.site) (walked_keys s keys)
+    (many_is (column_cmp_total s) (site_value s.site) (walked_keys s keys)
     (RisesStrictly-keep_first (column_cmp s)
     (sort_by (column_cmp s) (filter (λ key. not (is_null key)) keys)) []
-    (Ascends-sort_by (spot_cmp_total s) (filter (λ key. not (is_null key)) keys))) rows
+    (Ascends-sort_by (column_cmp_total s) (filter (λ key. not (is_null key)) keys))) rows
     (Ascends-first (on (site_value s.site) (column_cmp s)) (entry_cmp ss) rows h))
     ∙ filter-filter _ used rows
     ∙ filter_agree _ _
     (λ row. ap (λ b. b && used row)
-    (ties_walked (spot_cmp_total s) (filter (λ key. not (is_null key)) keys) (site_value s.site row)
+    (ties_walked (column_cmp_total s) (filter (λ key. not (is_null key)) keys)
+    (site_value s.site row)
     ∙ any_is s keys (site_value s.site row))) rows
 
 pub null_here : (falling : Bool) (collation : Collation) (v : Value)

@@ -47,12 +47,13 @@ foreign_all item [] h = tt
 foreign_all item (n ∷ ns) h = foreign_case item n ns (foreign_all item ns) (item == n) refl h
 
 -- what a side_conversion that serves says
-pub record IsSide (item : ℕ) (o : Option ColumnRef) (ok : Bool) (kind : Option TermKind) (collation : Collation) (s : Served) :
-    Type 0 where
-  pub column : o ≡ Some (record { item = item; site = s.site })
-  pub fine : ok ≡ true
-  pub says : kind ≡ Some s.kind
-  pub same : collation ≡ s.collation
+pub record IsSide (item : ℕ) (o : Option ColumnRef) (ok : Bool) (kind : Option TermKind)
+    (collation : Collation) (s : Served) : Type 0
+  where
+    pub column : o ≡ Some (record { item = item; site = s.site })
+    pub fine : ok ≡ true
+    pub says : kind ≡ Some s.kind
+    pub same : collation ≡ s.collation
 
 cond_case : (item : ℕ) (c : ColumnRef) (ok : Bool) (kind : TermKind) (collation : Collation)
     (s : Served) (b : Bool)
@@ -112,8 +113,7 @@ comparison_cases : (item : ℕ) (op : Op) (left right : BExpr)
     → ComparisonServes item s.site s.collation s.kind
     (Cmp op left right left_conversion right_conversion collation)
 comparison_cases item op left right left_conversion right_conversion collation s (inl h) =
-    let i =
-    side_is item _ _ _ collation s h in
+    let i = side_is item _ _ _ collation s h in
     (i.same, inl (side_serves item op left right left_conversion right_conversion collation s i))
 comparison_cases item op left right left_conversion right_conversion collation s (inr h) =
     let i =
@@ -173,8 +173,7 @@ key_is site collation (Some s) key h =
     record {
       served = s;
       is = refl;
-      same_site_is =
-          site_is s.site site (and_left _ (same_collation s.collation collation) r.0);
+      same_site_is = site_is s.site site (and_left _ (same_collation s.collation collation) r.0);
       same_collation_is =
           collation_is s.collation collation (and_right (same_site s.site site) _ r.0);
       kind_is = r.1;
@@ -275,10 +274,8 @@ serving_is own item (OneOf false left entries entry_conversion collation) s h =
       i.same,
       record {
         is_column = i.column;
-        foreign =
-            foreign_all item (all_names entries) (not_false _ i.fine);
-        says =
-            sym (some_is _ s.kind i.says);
+        foreign = foreign_all item (all_names entries) (not_false _ i.fine);
+        says = sym (some_is _ s.kind i.says);
       },
     )
 serving_is own item (IsNull true e) s h = absurd (cc)
@@ -305,8 +302,7 @@ one_direct own bound item number c is true e (Some s) f = (
     conjunct = c;
     is = is;
     allowed = e;
-    serves =
-        serving_is own item c.expr s f;
+    serves = serving_is own item c.expr s f;
     numbered = refl;
   },
   tt,

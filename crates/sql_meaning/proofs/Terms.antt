@@ -226,9 +226,6 @@ serves_is env params item site collation kind (Collate e c) h = absurd h
 serves_is env params item site collation kind (Not e) h = absurd h
 serves_is env params item site collation kind (All es) h = absurd h
 
-flag_false : (b : Bool) → b ≡ false → b ≡ true → ⊥
-flag_false b h k = cc
-
 -- an Int compares alike under every collation
 int_alike : (a b : Collation) (n : ℤ) (k : Value) → value_cmp a (Int n) k ≡ value_cmp b (Int n) k
 int_alike a b n Null = refl

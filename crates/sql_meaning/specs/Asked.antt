@@ -18,10 +18,11 @@ uncut schema database plan params =
     (plan_walks schema database plan params)
 
 -- the rows of the statement, each as often, and none after one that ORDER BY puts behind it
-pub record IsAsked (bound : Bound) (database : Database) (params : List Value) (list : List Assignment) :
-    Type 0 where
-  pub permutes : IsPermutation list (statement_rows bound database params)
-  pub ordered : Ascends (by_keys params bound.keys) list
+pub record IsAsked (bound : Bound) (database : Database) (params : List Value)
+    (list : List Assignment) : Type 0
+  where
+    pub permutes : IsPermutation list (statement_rows bound database params)
+    pub ordered : Ascends (by_keys params bound.keys) list
 
 -- what the plan answers
 abbrev pub answer : Schema → Database → Plan → List Value → List (List Value)

@@ -85,8 +85,7 @@ take_bounds low high =
       eqs = [];
       low = edge_of low;
       high = edge_of high;
-      used =
-          one_or_none low ++ one_or_none high;
+      used = one_or_none low ++ one_or_none high;
     }
 
 abbrev pub take_equal : Option Term → Taken → Taken → Taken
@@ -95,8 +94,7 @@ take_equal (Some t) rest bounds =
       eqs = part_or t.kind ∷ rest.eqs;
       low = rest.low;
       high = rest.high;
-      used =
-          t ∷ rest.used;
+      used = t ∷ rest.used;
     }
 take_equal None rest bounds = bounds
 
@@ -128,8 +126,7 @@ rowid_range (Some l) high =
     Some
     (record {
       path = RowidRange (edge_of (Some l)) (edge_of high);
-      used =
-          one_or_none (Some l) ++ one_or_none high;
+      used = one_or_none (Some l) ++ one_or_none high;
     })
 rowid_range None (Some h) =
     Some

@@ -1,4 +1,4 @@
--- The list that an index keeps (fileformat2, "Index B-Trees").
+-- The list that an index keeps (fileformat2, "Representation Of SQL Indices").
 use Rattle.std.specs.Prelude.{Bool, false, true, List, [], ◌∷◌, map, Option, Some, None, ℕ}
 use Rattle.std.specs.Prelude.{slice_get}
 use Rattle.std.specs.declared.cmp.Ordering.{Ordering}

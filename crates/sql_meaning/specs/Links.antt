@@ -1,5 +1,4 @@
--- Columns linked by equality, and the equalities that follow (optoverview, "transitive
--- constraints").
+-- Columns linked by equality, and the equalities that follow (optoverview).
 use Rattle.std.specs.Prelude.{◌≡◌, ◌≢◌, List, Some, ℕ, slice_get, [], None}
 use Rattle.sql_meaning.specs.Values.{Affinity, Integer, Real, Numeric, TextAffinity, BlobAffinity}
 use Rattle.sql_meaning.specs.Values.{Collation}
@@ -21,15 +20,16 @@ affinity_class BlobAffinity = BlobAffinity
 
 -- `c = d` links two columns of different items where it compares them as each compares itself: by
 -- the own collation of both, and with affinities of one class
-pub record LinkOf (schema : Schema) (items : List Item) (c d : ColumnRef) (left right : BExpr) (collation : Collation) :
-    Type 0 where
-  pub is_c : bare_column left ≡ Some c
-  pub is_d : bare_column right ≡ Some d
-  pub apart : c.item ≢ d.item
-  pub own_c : (own_column schema items c).collation ≡ collation
-  pub own_d : (own_column schema items d).collation ≡ collation
-  pub one_class : affinity_class (own_column schema items c).affinity
-      ≡ affinity_class (own_column schema items d).affinity
+pub record LinkOf (schema : Schema) (items : List Item) (c d : ColumnRef) (left right : BExpr)
+    (collation : Collation) : Type 0
+  where
+    pub is_c : bare_column left ≡ Some c
+    pub is_d : bare_column right ≡ Some d
+    pub apart : c.item ≢ d.item
+    pub own_c : (own_column schema items c).collation ≡ collation
+    pub own_d : (own_column schema items d).collation ≡ collation
+    pub one_class : affinity_class (own_column schema items c).affinity
+        ≡ affinity_class (own_column schema items d).affinity
 
 abbrev pub Links : Schema → List Item → ColumnRef → ColumnRef → BExpr → Type 0
 Links schema items c d (Cmp IsEqual left right left_conversion right_conversion collation) =
@@ -58,8 +58,7 @@ pub data Derives (schema : Schema) (items : List Item) (es : List BExpr) (item :
         column = c.site;
         conjunct = None;
         collation = (own_column schema items c).collation;
-        kind =
-            Equals key;
+        kind = Equals key;
       })
   by_column : (c d : ColumnRef) → c.item ≡ item → d.item ≢ item → Linked schema items es c d
       → Derives schema items es item
@@ -67,6 +66,5 @@ pub data Derives (schema : Schema) (items : List Item) (es : List BExpr) (item :
         column = c.site;
         conjunct = None;
         collation = (own_column schema items c).collation;
-        kind =
-            Equals (record { expr = ref_expr d; conversion = None });
+        kind = Equals (record { expr = ref_expr d; conversion = None });
       })

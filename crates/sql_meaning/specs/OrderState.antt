@@ -49,8 +49,7 @@ index_positions alias (c ∷ cs) eqs =
       site = column_site alias c.column;
       collation = c.collation;
       falling = c.falling;
-      held =
-          first_held eqs;
+      held = first_held eqs;
     } ∷ cond (is_alias alias c.column) [] (index_positions alias cs (rest_parts eqs))
 
 abbrev pub columns_at : Option Index → List IndexColumn

@@ -98,8 +98,7 @@ derived_term schema items c key =
     record {
       column = c.site;
       conjunct = None;
-      collation =
-          (own_column schema items c).collation;
+      collation = (own_column schema items c).collation;
       kind = Equals key;
     }
 
