@@ -1,3 +1,4 @@
+-- The stretches of keys that rise, joined, are a filter.
 use Rattle.std.specs.List.{AllByRecursion, filter, flat_map}
 use Rattle.std.specs.Ordering.{is_eq, is_le, ordering_reverse, on}
 use Rattle.std.specs.declared.cmp.Ordering.{Ordering}

@@ -1,3 +1,4 @@
+-- Members of a list, all of which have a property.
 use Rattle.std.specs.List.{AllByRecursion, flat_map, filter}
 use Rattle.std.proofs.Common.{List, [], ◌∷◌, ◌++◌, ◌≡◌, ◌≢◌, ℕ, zero, suc, refl, ap, set, Bool}
 use Rattle.std.proofs.Common.{true, false, cond, ◌&&◌, ◌∙◌}

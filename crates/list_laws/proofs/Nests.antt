@@ -1,3 +1,4 @@
+-- Nested loops are a filter of a product.
 use Rattle.std.specs.List.{AllByRecursion, filter, flat_map}
 use Rattle.std.proofs.Common.{◌≡◌, ◌≢◌, ℕ, List, None, get_or, refl, sym, get_or-set_other, [], ◌∷◌}
 use Rattle.std.proofs.Common.{◌∙◌, Bool, true, false, cond, ◌&&◌, ap, Some, ◌++◌}
@@ -198,8 +199,8 @@ not_both : (c k m : Bool) → (c ≡ true → k ≡ true) → k ≡ m → m ≡ 
 not_both true k m h e f = absurd (let t : k ≡ true = h refl in cc)
 not_both false k m h e f = refl
 
--- over any assignments of the items to its left, a block of loops finds, in any order of its
--- items, the extensions on which the block's conjuncts hold, but for such as nothing to the right
+-- over any assignments of the items to its left, a block of loops finds, in any order of its items,
+-- the extensions on which the block's conjuncts hold, but for such as nothing to the right
 -- completes
 pub block_law : {X : Type 0} {free : ℕ → Bool} (rows : ℕ → Env X → List X) → AreFree free rows
     → (cs : List (Env X → Bool)) (block : Env X → Bool) (ts : List (Step X)) (order left : List ℕ)

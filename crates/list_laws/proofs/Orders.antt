@@ -1,3 +1,4 @@
+-- Lists in order: sorting, filtering, stretches of one key.
 use Rattle.std.specs.Ordering.{is_le, is_gt, ordering_reverse, ordering_then, is_lt, then_cmp, on}
 use Rattle.std.specs.Ordering.{is_eq}
 use Rattle.std.specs.declared.cmp.Ordering.{Ordering}

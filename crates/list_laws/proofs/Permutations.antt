@@ -1,3 +1,4 @@
+-- Equal tallies and permutations.
 use Rattle.std.specs.List.{sum_by}
 use Rattle.std.specs.List.Sorted.{IsPermutation}
 use Rattle.std.proofs.Common.{◌≡◌, ℕ, ◌+◌, List, [], ◌∷◌, refl, ap, sym, ◌∙◌, ◌++◌, ◌≤◌, Bool, true}

@@ -1,3 +1,4 @@
+-- A stretch of a list in order is a filter of it.
 use Rattle.std.specs.List.{AllByRecursion, filter}
 use Rattle.std.proofs.Common.{◌≡◌, Bool, true, false, cond, List, [], ◌∷◌, not, ◌&&◌, arith, refl}
 use Rattle.list_laws.specs.Stretch.{take_until, Rises, drop_while, stretch}

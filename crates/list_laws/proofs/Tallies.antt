@@ -1,3 +1,4 @@
+-- Tallies of joined, filtered and mapped lists.
 use Rattle.std.specs.List.{flat_map, filter, AllByRecursion}
 use Rattle.std.proofs.Common.{◌≡◌, ℕ, ◌+◌, List, [], ◌∷◌, ◌++◌, arith, refl, ap, ◌∙◌, Bool, true}
 use Rattle.std.proofs.Common.{false, cond, map, sym}

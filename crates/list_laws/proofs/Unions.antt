@@ -1,3 +1,4 @@
+-- First comings of joined walks.
 use Rattle.std.specs.Cmp.{IsEquivalence}
 use Rattle.std.specs.List.{AllByRecursion, filter, flat_map}
 use Rattle.std.proofs.Common.{◌≡◌, Bool, true, List, [], ◌∷◌, refl, ◌∙◌, ℕ, false, cond, not, ◌&&◌}

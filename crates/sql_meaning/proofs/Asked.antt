@@ -1,3 +1,4 @@
+-- Plans mean their statements: the rows of the loops, and their order.
 use Rattle.std.specs.Ordering.{ordering_then, then_cmp}
 use Rattle.std.specs.declared.cmp.Ordering.{Ordering}
 use Rattle.std.specs.declared.cmp.Ordering.TheVariants.{Less, Equal as Ties, Greater}
@@ -110,8 +111,10 @@ passing_case : (schema : Schema) (database : Database) (bound : Bound) (params :
     → l.reverse ∷ map (λ l. l.reverse) ls ≡ directions_after p (directions schema bound ls)
     → Ascends (by_keys params keys)
     (nested (steps_of schema database bound params consumed u placed (l ∷ ls)) env)
-passing_case schema database bound params consumed placed u l ls env keys valid lt n ih Loses e h d = absurd (cc)
-passing_case schema database bound params consumed placed u l ls env keys valid lt n ih (Leaves left out) e h d =
+passing_case schema database bound params consumed placed u l ls env keys valid lt n ih Loses e h d
+    = absurd (cc)
+passing_case schema database bound params consumed placed u l ls env keys valid lt n ih
+    (Leaves left out) e h d =
     let parts =
     cons_parts l.reverse (backward out) (map (λ l. l.reverse) ls)
     (directions schema bound ls left) d in
@@ -129,9 +132,12 @@ pub nested_ordered : (schema : Schema) (database : Database) (bound : Bound)
     → map (λ l. l.reverse) loops ≡ directions schema bound loops keys
     → Ascends (by_keys params keys)
     (nested (steps_of schema database bound params consumed u placed loops) env)
-nested_ordered schema database bound params consumed placed u loops [] env valid inside distinct h d = ascends_always params _
-nested_ordered schema database bound params consumed placed u [] (k ∷ ks) env valid inside distinct h d = absurd (cc)
-nested_ordered schema database bound params consumed placed u (l ∷ ls) (k ∷ ks) env valid inside distinct h d =
+nested_ordered schema database bound params consumed placed u loops [] env valid inside distinct h d
+    = ascends_always params _
+nested_ordered schema database bound params consumed placed u [] (k ∷ ks) env valid inside distinct
+    h d = absurd (cc)
+nested_ordered schema database bound params consumed placed u (l ∷ ls) (k ∷ ks) env valid inside
+    distinct h d =
     passing_case schema database bound params consumed placed u l ls env
     (k ∷ ks) valid inside.0 distinct.0
     (λ left g e x. nested_ordered schema database bound params consumed (l.item ∷ placed) u ls left

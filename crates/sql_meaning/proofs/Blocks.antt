@@ -110,9 +110,14 @@ block_case : (schema : Schema) (database : Database) (bound : Bound) (params : L
     → slice_get bound.conjuncts number ≡ Some c → is_common c ≡ true
     → first_in left (loop_items loops) (names c.expr) ≡ true → (b : Bool)
     → has_number number consumed ≡ b → holds a params c.expr ≡ true
-block_case schema database bound params consumed left loops used a number c some o own k is common first true e = settled_used schema database bound params consumed left loops used a number c o k is common (own number c is common first e)
-block_case schema database bound params consumed left [] used a number c some o own k is common first false e = absurd (some refl)
-block_case schema database bound params consumed left (l ∷ ls) used a number c some o own k is common first false e =
+block_case schema database bound params consumed left loops used a number c some o own k is common
+    first true e =
+    settled_used schema database bound params consumed left loops used a number c o k is common
+    (own number c is common first e)
+block_case schema database bound params consumed left [] used a number c some o own k is common
+    first false e = absurd (some refl)
+block_case schema database bound params consumed left (l ∷ ls) used a number c some o own k is
+    common first false e =
     or_cases
     (all_in (names c.expr) (loop_items (l ∷ ls) ++ left) && not (all_in (names c.expr) left))
     (is_empty (names c.expr) && is_empty left)
@@ -151,7 +156,8 @@ block_of_loops : (schema : Schema) (database : Database) (bound : Bound)
     (flat_map
     (λ g. filter (block_holds bound params left (loop_items loops))
     (product (choices database bound params) order g)) G)
-block_of_loops schema database bound params consumed left loops used order G valid owners some offered plain own re distinct apart inside =
+block_of_loops schema database bound params consumed left loops used order G valid owners some
+    offered plain own re distinct apart inside =
     block_law (choices database bound params)
     (λ i h env a. free_choices database bound params i (is_left bound i) h _ _ _)
     (chosen_hold is_common params bound.conjuncts ∷ [])

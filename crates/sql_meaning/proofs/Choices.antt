@@ -1,3 +1,4 @@
+-- What is chosen of an item's terms is an offer.
 use Rattle.std.specs.List.{AllByRecursion}
 use Rattle.std.specs.Ordering.{nat_cmp, eq_by_cmp}
 use Rattle.std.proofs.Common.{◌≡◌, Some, Bool, true, false, cond, List, ap, sym, ◌∙◌, subst, []}
@@ -31,7 +32,7 @@ use Rattle.sql_meaning.proofs.Rises.{site_is, collation_is, spot_of, alias_is, s
 use Rattle.sql_meaning.proofs.Offers.{and_left, and_right, all_in_all}
 use Rattle.sql_meaning.proofs.Paths.{all_sort}
 
--- the terms of a column, as D13 lists them: of the column, of the right kind, and each a term of
+-- the terms of a column as they are listed: of the column, of the right kind, and each a term of
 -- the item
 pub record AreColumnTerms (P : Term → Type 0) (c : ColumnTerms) : Type 0 where
   pub equals : AllByRecursion
@@ -193,7 +194,7 @@ equal_taken P placed alias s ss column p may ts h rest bounds r b (Some t) f =
       terms = (q.0.2, r.terms);
     }
 
--- 5.7's seek carries the terms that it takes
+-- a seek carries the terms that it takes
 pub seek_taken : (P : Term → Type 0) (placed : List ℕ) (alias : Option ℕ)
     (columns : List ColumnTerms)
     → AllByRecursion (AreColumnTerms P) columns → (cs : List IndexColumn)
@@ -271,7 +272,7 @@ seek_case P schema alias placed index taken t (u ∷ us) e o f =
       terms = subst (AllByRecursion P) e t.terms;
     })
 
--- a seek of 5.7
+-- a seek by an index
 pub seek_plain : (P : Term → Type 0) (schema : Schema) (alias : Option ℕ) (placed : List ℕ)
     (columns : List ColumnTerms) (index : ℕ) (o : Offer)
     → AllByRecursion (AreColumnTerms P) columns
@@ -285,7 +286,7 @@ seek_plain P schema alias placed columns index o h f =
     (sym (spots_are (slice_get schema.indexes index))) (seek_taken P placed alias columns h cs))
     (seek_terms placed alias columns cs).used refl o f
 
--- 5.7's rowid path
+-- a seek by rowid
 rowid_may : (placed : List ℕ) (alias : Option ℕ) (t : Term) → t.column ≡ AtRowid
     → is_usable placed t ≡ true → MayUse alias by_rowid t × KeysPlaced placed t
 rowid_may placed alias t at f = (inr (at, tt), usable_placed placed t f)
@@ -356,7 +357,7 @@ path_carries schema alias (IndexScan index) ts u c = c
 path_carries schema alias (IndexSeek index eqs low high) ts u c = c
 path_carries schema alias (Union ps) ts u c = absurd (cc)
 
--- kinds 2 and 3 of 5.7 are offers as the laws ask them
+-- seeks are offers as the laws ask them
 pub plain_offer : (schema : Schema) (bound : Bound) (placed : List ℕ) (item : ℕ) (o : Offer)
     (back : Bool)
     → FitsStatement schema bound → has_number item placed ≡ false
@@ -377,7 +378,7 @@ no_terms : (alias : Option ℕ) (ss : List SortColumn) → Carries alias ss [] N
 no_terms alias [] = refl
 no_terms alias (s ∷ ss) = ([], [], refl, refl, refl)
 
--- kind 1, and the scans of kind 3
+-- scans are offers
 pub scan_offer : (schema : Schema) (bound : Bound) (placed : List ℕ) (item : ℕ) (back : Bool)
     → FitsStatement schema bound → has_number item placed ≡ false
     → IsOffer schema bound placed
@@ -400,7 +401,7 @@ index_scan_offer schema bound placed item index back fits un =
       consumes = tt;
     }
 
--- kind 4: for each branch an offer of its own terms
+-- a union has for each branch an offer of its own terms
 abbrev pub BranchOffers : Schema → Bound → Conjunct → List ℕ → ℕ → BExprs → List Offer → Type 0
 BranchOffers schema bound c placed item Nil [] = Unit {0}
 BranchOffers schema bound c placed item Nil (o ∷ os) = ⊥

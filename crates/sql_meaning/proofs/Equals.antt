@@ -1,3 +1,4 @@
+-- A test of equality for assignments.
 use Rattle.std.specs.Cmp.{signed_Decides}
 use Rattle.std.proofs.Common.{Bool, true, false, ◌&&◌, List, [], ◌∷◌, Option, Some, None, ◌≡◌, refl}
 use Rattle.std.proofs.Common.{ap₂, ap, ℤ, int_eq, ℕ, ◌==◌}

@@ -1,3 +1,4 @@
+-- The value of an expression depends on the items that it names.
 use Rattle.std.proofs.Common.{◌≡◌, List, ◌∷◌, refl, ap, ◌∙◌, map}
 use Rattle.list_laws.specs.Nest.{Agree}
 use Rattle.list_laws.proofs.Lists.{agree_first, agree_second}

@@ -1,3 +1,4 @@
+-- Linked columns are equal, and derived terms hold.
 use Rattle.std.specs.List.{AllByRecursion, slice_get}
 use Rattle.std.specs.declared.cmp.Ordering.{Ordering}
 use Rattle.std.specs.declared.cmp.Ordering.TheVariants.{Less, Equal as Ties, Greater}
@@ -123,7 +124,8 @@ link_is : (schema : Schema) (items : List Item) (env : Assignment) (params : Lis
     → FitsExpr schema items e → Links schema items c d e → holds env params e ≡ true
     → compares IsEqual (own_column schema items c).collation (cell env c.item c.site)
     (cell env d.item d.site) ≡ true
-link_is schema items env params c d (Cmp IsEqual left right left_conversion right_conversion collation) f l h =
+link_is schema items env params c d
+    (Cmp IsEqual left right left_conversion right_conversion collation) f l h =
     let no_left : left_conversion ≡ None = f.0
     ∙ ap₂ side_conversion (bare_affinity schema items left c l.is_c)
     (bare_affinity schema items right d l.is_d)
@@ -157,7 +159,8 @@ link_is schema items env params c d (Any es) f l h = absurd l
 link_collation : (schema : Schema) (items : List Item) (c d : ColumnRef) (e : BExpr)
     → Links schema items c d e
     → (own_column schema items c).collation ≡ (own_column schema items d).collation
-link_collation schema items c d (Cmp IsEqual left right left_conversion right_conversion collation) l = l.own_c ∙ sym l.own_d
+link_collation schema items c d (Cmp IsEqual left right left_conversion right_conversion collation)
+    l = l.own_c ∙ sym l.own_d
 link_collation schema items c d (Cmp IsUnequal left right lc rc collation) l = absurd l
 link_collation schema items c d (Cmp IsBelow left right lc rc collation) l = absurd l
 link_collation schema items c d (Cmp IsAtMost left right lc rc collation) l = absurd l
@@ -210,7 +213,7 @@ site_expr_is : (env : Assignment) (params : List Value) (item : ℕ) (site : Sit
 site_expr_is env params item AtRowid = refl
 site_expr_is env params item (AtColumn column) = refl
 
--- D13's law: where all the conjuncts hold, each derived term of the item holds
+-- where all the conjuncts hold, each derived term of the item holds
 pub derived_holds : (schema : Schema) (items : List Item) (es : List BExpr) (env : Assignment)
     (params : List Value)
     → AllByRecursion (FitsExpr schema items) es → AllByRecursion (λ e. holds env params e ≡ true) es

@@ -1,3 +1,4 @@
+-- The loops of a plan keep just the assignments on which every common conjunct holds.
 use Rattle.std.specs.List.{slice_get, AllByRecursion}
 use Rattle.std.proofs.Common.{◌≡◌, ℕ, Bool, true, false, cond, not, List, refl, ap, sym, ◌∙◌, []}
 use Rattle.std.proofs.Common.{◌∷◌, ◌||◌, ◌==◌, ◌++◌, Option, Some, None, inl, inr, ◌&&◌, zero-add}
@@ -200,7 +201,8 @@ pub settled_test : (schema : Schema) (database : Database) (bound : Bound)
 settled_test schema database bound params consumed placed [] u a number c k is common n cover h =
     absurd
     (let yes : all_in (names c.expr) placed ≡ true = covered_all (names c.expr) placed cover in cc)
-settled_test schema database bound params consumed placed (l ∷ ls) u a number c k is common n cover h =
+settled_test schema database bound params consumed placed (l ∷ ls) u a number c k is common n cover
+    h =
     let rest = and_right (u l a) _ k in
     test_case (all_in (names c.expr) (l.item ∷ placed)) refl
     (λ e. test_at is_common params consumed placed l.item 0 bound.conjuncts a number c
@@ -248,9 +250,15 @@ settles_one : (schema : Schema) (database : Database) (bound : Bound) (params : 
 settles_one schema database bound params loops used a number c some o named k is common true f e g =
     settled_used schema database bound params
     (consumed_by loops) [] loops used a number c o k is common f
-settles_one schema database bound params loops used a number c some o named k is common false f false g = settled_test schema database bound params (consumed_by loops) [] loops (uses bound params used) a number c k is common f (covered_start (names c.expr) (loop_items loops) named) (some_named (names c.expr) g)
-settles_one schema database bound params [] used a number c some o named k is common false f true g = absurd (some refl)
-settles_one schema database bound params (l ∷ ls) used a number c some o named k is common false f true g =
+settles_one schema database bound params loops used a number c some o named k is common false f
+    false g =
+    settled_test schema database bound params (consumed_by loops) [] loops
+    (uses bound params used) a number c k is common f
+    (covered_start (names c.expr) (loop_items loops) named) (some_named (names c.expr) g)
+settles_one schema database bound params [] used a number c some o named k is common false f true g
+    = absurd (some refl)
+settles_one schema database bound params (l ∷ ls) used a number c some o named k is common false f
+    true g =
     test_at is_common params (consumed_by (l ∷ ls)) [] l.item 0 bound.conjuncts a number c
     (and_left (level_test is_common params (consumed_by (l ∷ ls)) [] l.item 0 bound.conjuncts a) _
     (and_right (uses bound params used l a) _ k)) is common
@@ -390,7 +398,7 @@ cond_same : (b : Bool) → cond b true false ≡ b
 cond_same true = refl
 cond_same false = refl
 
--- T4.3: the nested walks of a plan whose loops are offers are a permutation of the statement's rows
+-- the loops of a plan that are offers find the statement's rows, each as often
 pub plan_rows : (schema : Schema) (plan : Plan) → FitsOffers schema plan
     → (database : Database) → IsDatabase schema plan.bound database → (params : List Value)
     → SameTally (plan_walks schema database plan params) (statement_rows plan.bound database params)

@@ -1,3 +1,4 @@
+-- What a walk has, told by its used terms; and that no row of an answer lacks them.
 use Rattle.std.specs.List.{AllByRecursion, filter, slice_get}
 use Rattle.std.proofs.Common.{◌≡◌, Bool, true, false, ◌&&◌, refl, ℕ, ◌||◌, ◌==◌, List, ◌∷◌, None}
 use Rattle.std.proofs.Common.{get_or, [], ap, ap₂, map, cond, ◌∙◌, ◌≢◌, Option, ◌<◌, Some, length}
@@ -226,7 +227,10 @@ carried_true schema params alias (RowidRange low high) placed item env row (AllO
 carried_true schema params alias (IndexScan index) placed item env row (AllOf ts) c k h lt p =
     plain_true schema params alias (IndexScan index) env row ts refl c k
     ∙ terms_placed params placed item env row ts h lt p
-carried_true schema params alias (IndexSeek index eqs low high) placed item env row (AllOf ts) c k h lt p = plain_true schema params alias (IndexSeek index eqs low high) env row ts refl c k ∙ terms_placed params placed item env row ts h lt p
+carried_true schema params alias (IndexSeek index eqs low high) placed item env row (AllOf ts) c k h
+    lt p =
+    plain_true schema params alias (IndexSeek index eqs low high) env row ts refl c k
+    ∙ terms_placed params placed item env row ts h lt p
 carried_true schema params alias TableScan placed item env row (AnyOf tss) c k h lt p = absurd c
 carried_true schema params alias (RowidEq part) placed item env row (AnyOf tss) c k h lt p =
     absurd c
@@ -234,7 +238,8 @@ carried_true schema params alias (RowidRange low high) placed item env row (AnyO
     absurd c
 carried_true schema params alias (IndexScan index) placed item env row (AnyOf tss) c k h lt p =
     absurd c
-carried_true schema params alias (IndexSeek index eqs low high) placed item env row (AnyOf tss) c k h lt p = absurd c
+carried_true schema params alias (IndexSeek index eqs low high) placed item env row (AnyOf tss) c k
+    h lt p = absurd c
 
 pub filter_on : {X : Type 0} (p q : X → Bool) (xs : List X) → AllByRecursion (λ x. p x ≡ q x) xs
     → filter p xs ≡ filter q xs
@@ -259,8 +264,8 @@ directed_same true xs =
     (SameTally-from_permutation xs (reverse xs) (IsPermutation-reverse xs))
 directed_same false xs = SameTally-refl xs
 
--- T4.1 and T4.2 at once: for given rows of the placed items the walk has, in some order, the rows
--- on which the used terms hold, each as often
+-- for given rows of the placed items a walk has, in some order, the rows on which the used terms
+-- hold, each as often
 pub walk_used : (schema : Schema) (params : List Value) (alias : Option ℕ) (path : Path)
     (back : Bool) (rows : List Row) (placed : List ℕ) (item : ℕ) (env : Assignment) (used : Used)
     → RisingRows rows → AllByRecursion (AliasHolds alias) rows → PathCarries schema alias path used
@@ -278,7 +283,7 @@ walk_used schema params alias path back rows placed item env used rising aliased
       ∙ ap (tally f) (filter_some Some (λ x. used_holds (place env item x) params item used) rows);
 }
 
--- D11's law: a condition holds exactly where each member of its flattened AND list holds
+-- a condition holds exactly where each member of its flattened AND list holds
 abbrev pub all_hold_of : Assignment → List Value → List BExpr → Bool
 all_hold_of env params [] = true
 all_hold_of env params (e ∷ es) = holds env params e && all_hold_of env params es
@@ -483,8 +488,7 @@ branches_from schema bound params c item env (More e es) (ts ∷ tss) g k h =
     (λ t. branches_from schema bound params c item env es tss g.1 k.1 t)
     (sym (or3_true _ (any3 (evs env params es))) ∙ h)
 
--- T4.2: where the OR conjunct holds, for whatever rows of the items that aren't placed, some
--- branch's terms hold
+-- where an OR holds, for whatever rows of the items that aren't placed, some branch's terms hold
 pub or_holds : (schema : Schema) (bound : Bound) (params : List Value) (item : ℕ) (env : Assignment)
     (tss : List (List Term)) (o : IsOrTerm schema bound item tss)
     → FitsStatement schema bound → holds env params o.conjunct.expr ≡ true
@@ -536,7 +540,7 @@ consumed_term schema bound params item env number t (inl d) e h =
 consumed_term schema bound params item env number t (inr (none, d)) e h =
     absurd (let no : None ≡ Some number = sym none ∙ e in cc)
 
--- T4.1's last sentence: each consumed conjunct holds where the used terms do
+-- each consumed conjunct holds where the used terms do
 pub consumed_holds : (schema : Schema) (bound : Bound) (params : List Value) (item : ℕ)
     (env : Assignment) (used : Used) (number : ℕ)
     → UsedComes schema bound item used → Consumes used number

@@ -1,3 +1,4 @@
+-- A loop that passes keys gives its rows in their order.
 use Rattle.std.specs.List.{AllByRecursion}
 use Rattle.std.specs.Ordering.{ordering_then, is_le, then_cmp}
 use Rattle.std.specs.declared.cmp.Ordering.TheVariants.{Equal as Ties, Less}
@@ -427,15 +428,18 @@ rows_case : (schema : Schema) (params : List Value) (alias : Option ℕ) (item :
     ≡ Leaves left out
     → IsLoopPassed params env item
     (map Some (directed_walk back (walk schema params path rows env))) keys left
-rows_case schema params alias item path back rows env keys left out rising aliased lt same true c e f h = absurd (cc)
-rows_case schema params alias item path back rows env keys left out rising aliased lt same false true e f h =
+rows_case schema params alias item path back rows env keys left out rising aliased lt same true c e
+    f h = absurd (cc)
+rows_case schema params alias item path back rows env keys left out rising aliased lt same false
+    true e f h =
     subst
     (λ (ks : List SortKey). IsLoopPassed params env item
     (map Some (directed_walk back (walk schema params path rows env))) keys ks)
     (leaves_keys (drop_held (λ k. on_item item (bare_column k.expr)) keys) left None out h).0
     (single_rows schema params alias item path back rows env keys
     (lost_union path e) f rising aliased)
-rows_case schema params alias item path back rows env keys left out rising aliased lt same false false e f h =
+rows_case schema params alias item path back rows env keys left out rising aliased lt same false
+    false e f h =
     passes_rows schema params alias item path back rows env keys left
     (lost_union path e) rising aliased lt
     (pass_is item (key_held schema alias item path) (IsOwn item)

@@ -1,3 +1,4 @@
+-- What passing keys along the positions of a path says of two rows.
 use Rattle.std.specs.List.{AllByRecursion}
 use Rattle.std.specs.declared.cmp.Ordering.{Ordering}
 use Rattle.std.specs.declared.cmp.Ordering.TheVariants.{Equal, Less, Greater}

@@ -58,7 +58,8 @@ pub consumed_on_walk : (schema : Schema) (bound : Bound) (params : List Value) (
     → slice_get bound.conjuncts number ≡ Some c
     → AllByRecursion (λ row. holds (place env item (Some row)) params c.expr ≡ true)
     (walk schema params path rows env)
-consumed_on_walk schema bound params alias path rows placed item env ts number c rising aliased u carries h lt keys comes consumes is =
+consumed_on_walk schema bound params alias path rows placed item env ts number c rising aliased u
+    carries h lt keys comes consumes is =
     all_map _ _ _
     (λ row k.
     let used : used_holds (place env item (Some row)) params item (AllOf ts) ≡ true =
@@ -94,7 +95,8 @@ pub union_has : (schema : Schema) (bound : Bound) (params : List Value) (alias :
     → UsedPlaced placed (AnyOf tss) → Agree (item ∷ placed) (place env item (Some row)) choice
     → holds choice params o.conjunct.expr ≡ true → IsOnce same_rowid rows row
     → has same_rowid (walk schema params (Union branches) rows env) row ≡ true
-union_has schema bound params alias branches rows placed item env tss o row choice fits rising aliased carries h lt keys agrees true_there once =
+union_has schema bound params alias branches rows placed item env tss o row choice fits rising
+    aliased carries h lt keys agrees true_there once =
     has_used same_rowid_equiv rows (walk schema params (Union branches) rows env)
     (carried schema params (Union branches) env) row once
     (walk_same schema params (Union branches) rows env rising)
@@ -173,11 +175,13 @@ misses_case schema bound params (Union branches) rows placed item env tss o row 
 misses_case schema bound params TableScan rows placed item env tss o row choice f r a c = absurd c
 misses_case schema bound params (RowidEq part) rows placed item env tss o row choice f r a c =
     absurd c
-misses_case schema bound params (RowidRange low high) rows placed item env tss o row choice f r a c =
+misses_case schema bound params (RowidRange low high) rows placed item env tss o row choice f r a c
+    =
     absurd c
 misses_case schema bound params (IndexScan index) rows placed item env tss o row choice f r a c =
     absurd c
-misses_case schema bound params (IndexSeek i eqs low high) rows placed item env tss o row choice f r a c =
+misses_case schema bound params (IndexSeek i eqs low high) rows placed item env tss o row choice f r
+    a c =
     absurd c
 
 pub unions_miss_no_row : UnionsMissNoRow

@@ -1,3 +1,4 @@
+-- A walk is the filter of its list by what the path carries.
 use Rattle.std.specs.Cmp.{IsTotalOrder, IsEquivalence}
 use Rattle.std.specs.declared.cmp.Ordering.{Ordering}
 use Rattle.std.specs.declared.cmp.Ordering.TheVariants.{Less, Equal}
@@ -60,8 +61,8 @@ form_is f params env rows h =
     seek_is f.columns (map (part_value env params) f.eqs) (end_value env params f.low)
     (end_value env params f.high) rows h
 
--- T4.1, for what the path carries: the walk is the filter of the path's list, kept in that list's
--- order
+-- the walk of a path that is no union is the filter of the path's list by what it carries, in that
+-- list's order
 pub walk_is : (schema : Schema) (params : List Value) (path : Path) (rows : List Row)
     (env : Assignment)
     → RisingRows rows → is_union path ≡ false
@@ -193,8 +194,7 @@ any_flat schema params Nowhere rows env row = refl
 any_flat schema params (Then path paths) rows env row =
     ap (λ b. carried schema params path env row || b) (any_flat schema params paths rows env row)
 
--- T4.2, for what the branches carry: the walk has the rows on which what it carries is true, each
--- once
+-- each walk has the rows on which what its path carries is true, each once
 mutual
   pub walk_same : (schema : Schema) (params : List Value) (path : Path) (rows : List Row)
       (env : Assignment)

@@ -1,3 +1,4 @@
+-- Each loop whose path is an offer keeps its word.
 use Rattle.std.specs.List.{AllByRecursion, slice_get, filter}
 use Rattle.std.proofs.Common.{◌≡◌, ℕ, Bool, cond, List, [], ◌∷◌, refl, ap, true, false, not, ◌||◌}
 use Rattle.std.proofs.Common.{◌+◌, ◌&&◌, ap₂, Option, Some, None, suc, zero, ◌∙◌, subst, arith, sym}

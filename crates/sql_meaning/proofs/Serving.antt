@@ -1,3 +1,4 @@
+-- What the function answers serves the column.
 use Rattle.std.specs.List.{AllByRecursion}
 use Rattle.std.proofs.Common.{◌≡◌, true, Option, Some, None, refl, Bool, false, not, ◌≢◌, ℕ, ◌||◌}
 use Rattle.std.proofs.Common.{◌==◌, List, ◌∷◌, sym, [], cond, ◌&&◌, ap, ◌∙◌, ◌⊎◌, inl, inr, subst}
@@ -46,7 +47,7 @@ foreign_all : (item : ℕ) (ns : List ℕ) → has_number item ns ≡ false
 foreign_all item [] h = tt
 foreign_all item (n ∷ ns) h = foreign_case item n ns (foreign_all item ns) (item == n) refl h
 
--- what a side_conversion that serves says
+-- what a side that serves says
 pub record IsSide (item : ℕ) (o : Option ColumnRef) (ok : Bool) (kind : Option TermKind)
     (collation : Collation) (s : Served) : Type 0
   where

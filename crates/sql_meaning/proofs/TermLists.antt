@@ -1,3 +1,4 @@
+-- Each term of the lists is a term of its item.
 use Rattle.std.specs.List.{AllByRecursion, filter}
 use Rattle.std.proofs.Common.{◌≡◌, true, ◌==◌, refl, ap₂, ◌≢◌, ℕ, not, List, Bool, false, cond}
 use Rattle.std.proofs.Common.{◌&&◌, [], ◌∷◌, Option, Some, slice_get, None, suc, ◌⊎◌, inl, inr, sym}
@@ -406,7 +407,7 @@ own_are schema bound item =
     direct_are _ bound item 0 bound.conjuncts
     (λ k c e. ap (slice_get bound.conjuncts) (add-zero k) ∙ e)
 
--- D13's lists of a column are terms of the item
+-- the listed terms of a column are terms of the item
 pub column_terms_are : (schema : Schema) (bound : Bound) (item : ℕ) (site : Site)
     → AreColumnTerms (IsTerm schema bound item) (column_terms schema bound item site)
 column_terms_are schema bound item site = record {
@@ -440,7 +441,7 @@ pub item_terms_are : (schema : Schema) (bound : Bound) (item : ℕ)
     → AllByRecursion (AreColumnTerms (IsTerm schema bound item)) (item_terms schema bound item)
 item_terms_are schema bound item = all_sites_are schema bound item (all_sites schema bound item)
 
--- so 5.7's seeks and rowid paths over D13's lists are offers
+-- so the seeks that are chosen of the lists are offers
 pub seek_of_terms : (schema : Schema) (bound : Bound) (placed : List ℕ) (item index : ℕ)
     (turned : Bool) (o : Offer)
     → FitsStatement schema bound → has_number item placed ≡ false
@@ -565,7 +566,7 @@ picks_offers schema bound c placed item number (More e es) (o ∷ os) h = (
   picks_offers schema bound c placed item number es os h.1,
 )
 
--- so each union of 5.7 is an offer
+-- so each union of chosen seeks is an offer
 pub union_of_terms : (schema : Schema) (bound : Bound) (placed : List ℕ) (item : ℕ) (turned : Bool)
     (number : ℕ) (c : Conjunct) (es : BExprs) (os : List Offer)
     → FitsStatement schema bound → has_number item placed ≡ false

@@ -1,3 +1,4 @@
+-- A conjunct that serves a column is true exactly where its term is.
 use Rattle.std.specs.declared.cmp.Ordering.{Ordering}
 use Rattle.std.specs.declared.cmp.Ordering.TheVariants.{Less, Equal as Ties, Greater}
 use Rattle.std.specs.Ordering.{ordering_reverse}
@@ -98,7 +99,7 @@ flip_case true false b c e = refl
 flip_case false true b c e = refl
 flip_case false false b c e = e
 
--- a comparison from its other side_conversion
+-- a comparison from its other side
 pub compares_flipped : (op : Op) (collation : Collation) (v w : Value)
     → compares op collation w v ≡ compares (flipped op) collation v w
 compares_flipped op collation v w =
@@ -142,13 +143,15 @@ comparison_is : (env : Assignment) (params : List Value) (item : ℕ) (site : Si
     (collation : Collation) (kind : TermKind) (e : BExpr)
     → ComparisonServes item site collation kind e
     → holds env params e ≡ kind_holds env params collation kind (cell env item site)
-comparison_is env params item site collation kind (Cmp op left right left_conversion right_conversion c) (same, inl s) =
+comparison_is env params item site collation kind
+    (Cmp op left right left_conversion right_conversion c) (same, inl s) =
     ap is_true (truth_again _)
     ∙ ap
     (λ c. compares op c (converted_by left_conversion (ev env params left))
     (converted_by right_conversion (ev env params right))) same
     ∙ side_is env params item site collation kind op left right left_conversion right_conversion s
-comparison_is env params item site collation kind (Cmp op left right left_conversion right_conversion c) (same, inr s) =
+comparison_is env params item site collation kind
+    (Cmp op left right left_conversion right_conversion c) (same, inr s) =
     ap is_true (truth_again _)
     ∙ ap
     (λ c. compares op c (converted_by left_conversion (ev env params left))
@@ -194,12 +197,15 @@ equalities_are env params item site collation (More e es) (key ∷ keys) h =
       equalities_are env params item site collation es keys h.1,
     ) refl
 
--- D12's meaning: a conjunct that serves a column is true exactly where its term is
+-- a conjunct that serves a column is true exactly where its term is
 pub serves_is : (env : Assignment) (params : List Value) (item : ℕ) (site : Site)
     (collation : Collation) (kind : TermKind) (e : BExpr)
     → Serves item site collation kind e
     → holds env params e ≡ kind_holds env params collation kind (cell env item site)
-serves_is env params item site collation kind (Cmp op left right left_conversion right_conversion c) h = comparison_is env params item site collation kind (Cmp op left right left_conversion right_conversion c) h
+serves_is env params item site collation kind (Cmp op left right left_conversion right_conversion c)
+    h =
+    comparison_is env params item site collation kind
+    (Cmp op left right left_conversion right_conversion c) h
 serves_is env params item site collation kind (OneOf true own entries converted c) h =
     absurd (let no : true ≡ false = h.0 in cc)
 serves_is env params item site collation kind (OneOf false own entries converted c) h =

@@ -80,8 +80,8 @@ kind_of IsAtLeast key = Some (Low key true)
 
 -- one side is the column, which the comparison does not convert, and the other names no column of
 -- the item
-pub record SideServes (item : ℕ) (site : Site) (kind : TermKind) (op : Op) (own other : BExpr) (own_conversion other_conversion : Option Affinity) :
-    Type 0
+pub record SideServes (item : ℕ) (site : Site) (kind : TermKind) (op : Op) (own other : BExpr)
+    (own_conversion other_conversion : Option Affinity) : Type 0
   where
     pub is_column : bare_column own ≡ Some (record { item = item; site = site })
     pub unconverted : own_conversion ≡ None
@@ -89,9 +89,9 @@ pub record SideServes (item : ℕ) (site : Site) (kind : TermKind) (op : Op) (ow
     pub says : kind_of op (record { expr = other; conversion = other_conversion }) ≡ Some kind
 
 abbrev pub entry_keys : Option Affinity → BExprs → List KeyExpr
-entry_keys converted Nil = []
-entry_keys converted (More e es) =
-    record { expr = e; conversion = converted } ∷ entry_keys converted es
+entry_keys conversion Nil = []
+entry_keys conversion (More e es) =
+    record { expr = e; conversion = conversion } ∷ entry_keys conversion es
 
 -- a comparison serves the column on either side of it
 abbrev pub ComparisonServes : ℕ → Site → Collation → TermKind → BExpr → Type 0
@@ -109,8 +109,8 @@ AreEqualities item site collation (More e es) [] = ⊥
 AreEqualities item site collation (More e es) (key ∷ keys) =
     ComparisonServes item site collation (Equals key) e × AreEqualities item site collation es keys
 
-pub record ListServes (item : ℕ) (site : Site) (kind : TermKind) (own : BExpr) (entries : BExprs) (entry_conversion : Option Affinity) :
-    Type 0
+pub record ListServes (item : ℕ) (site : Site) (kind : TermKind) (own : BExpr) (entries : BExprs)
+    (entry_conversion : Option Affinity) : Type 0
   where
     pub is_column : bare_column own ≡ Some (record { item = item; site = site })
     pub foreign : AllByRecursion (λ i. i ≢ item) (all_names entries)
