@@ -31,10 +31,11 @@ use Rattle.sql_meaning.specs.PlanLaws.{LoopsGiveTheRows, PlansGiveTheOrder, Offe
 use Rattle.sql_meaning.specs.Asked.{Means, uncut}
 use Rattle.sql_meaning.proofs.Databases.{IsDatabase, database_for}
 use Rattle.sql_meaning.proofs.Plans.{steps_items}
-use Rattle.sql_meaning.proofs.Ordered.{IsLoopPassed, nested_ends, nested_passes, loop_passed}
+use Rattle.sql_meaning.proofs.PassedLoops.{IsLoopPassed, loop_passed}
+use Rattle.sql_meaning.proofs.Ordered.{nested_ends, nested_passes}
 use Rattle.sql_meaning.proofs.Order.{value_cmp_total}
 use Rattle.sql_meaning.proofs.Seeks.{directed_total}
-use Rattle.sql_meaning.proofs.Means.{numbers_distinct, numbers_inside, plan_rows}
+use Rattle.sql_meaning.proofs.PlanRows.{numbers_distinct, numbers_inside, plan_rows}
 use Rattle.sql_meaning.proofs.Equals.{rows_eq, rows_true, rows_itself}
 
 then_assoc : (a b c : Ordering)

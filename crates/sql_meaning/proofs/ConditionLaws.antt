@@ -8,7 +8,7 @@ use Rattle.sql_meaning.specs.Evaluation.{holds}
 use Rattle.sql_meaning.specs.Statements.{Conjunct, chosen_hold}
 use Rattle.sql_meaning.specs.Conjuncts.{conjuncts_of}
 use Rattle.sql_meaning.specs.ConditionLaws.{ConjunctsSayTheirConditions}
-use Rattle.sql_meaning.proofs.Offers.{all_hold_of, flat_holds}
+use Rattle.sql_meaning.proofs.TermsHold.{all_hold_of, flat_holds}
 
 and_assoc : (a b c : Bool) → (a && (b && c)) ≡ ((a && b) && c)
 and_assoc true b c = refl

@@ -19,7 +19,7 @@ use Rattle.sql_meaning.specs.Asked.{answer, Means}
 use Rattle.sql_meaning.proofs.ExampleData.{int, row, table_of_columns, rising, index_on, from}
 use Rattle.sql_meaning.proofs.ExampleData.{left_join, equals_number, converted_key, common, owned}
 use Rattle.sql_meaning.proofs.ExampleData.{equals, select, number_key, plain_key, one}
-use Rattle.sql_meaning.proofs.TermLists.{seek_of_terms}
+use Rattle.sql_meaning.proofs.ListedTerms.{seek_of_terms}
 use Rattle.sql_meaning.proofs.Asked.{offered_plans_mean}
 
 abbrev loop : ℕ → Path → List ℕ → Loop

@@ -27,8 +27,8 @@ use Rattle.sql_meaning.specs.PathLaws.{IndexListsAreSorted, WalksAreFilters, Con
 use Rattle.sql_meaning.specs.PathLaws.{UnionsHaveEachRowOnce, UnionsMissNoRow}
 use Rattle.sql_meaning.proofs.Paths.{walk_is, all_list, all_walk, walk_same, same_rowid_equiv}
 use Rattle.sql_meaning.proofs.Paths.{entry_cmp_total, rows_once}
-use Rattle.sql_meaning.proofs.Offers.{filter_on, plain_true, terms_placed, consumed_holds}
-use Rattle.sql_meaning.proofs.Offers.{carried_true, used_looks, or_holds}
+use Rattle.sql_meaning.proofs.Offers.{filter_on, plain_true, terms_placed, carried_true, used_looks}
+use Rattle.sql_meaning.proofs.TermsHold.{consumed_holds, or_holds}
 use Rattle.sql_meaning.proofs.Rises.{walk_carried}
 use Rattle.sql_meaning.proofs.Databases.{database_for}
 use Rattle.sql_meaning.proofs.Equals.{row_eq, row_true, row_itself}

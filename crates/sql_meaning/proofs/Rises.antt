@@ -6,34 +6,27 @@ use Rattle.std.specs.List.{AllByRecursion, filter, slice_get}
 use Rattle.std.specs.Cmp.{IsEquivalence}
 use Rattle.std.proofs.Common.{Bool, cond, not, List, ◌≡◌, refl, ℤ, pos, ◌*ℤ◌, ◌∙◌, true, false, ap}
 use Rattle.std.proofs.Common.{ℕ, Option, Some, None, sym, [], ◌∷◌, ap₂, map, subst, ◌++◌, reverse}
-use Rattle.std.proofs.Common.{◌||◌}
-use Rattle.std.proofs.lemmas.Cmp.{int_cmp_total, on_total, eq_by_cmp_equiv, tied_back}
+use Rattle.std.proofs.lemmas.Cmp.{int_cmp_total, on_total, eq_by_cmp_equiv}
 use Rattle.std.proofs.lemmas.Bool.{eqb-true}
 use Rattle.std.proofs.lemmas.Grind.{reverse_onto}
 use Rattle.list_laws.specs.Order.{insert_by, sort_by, Ascends, RisesStrictly}
 use Rattle.list_laws.proofs.Orders.{all_insert, Ascends-sort_by}
 use Rattle.list_laws.proofs.Unions.{AreApart}
 use Rattle.list_laws.proofs.Lists.{all_both, all_map, all_filter, all_append, filter_all}
-use Rattle.sql_meaning.specs.Values.{value_cmp, Int, Collation, Binary, Value, Null, Dec, Text}
-use Rattle.sql_meaning.specs.Values.{Blob, is_null, Nocase, Rtrim}
-use Rattle.sql_meaning.specs.Rows.{Row, site_value, AtColumn, AtRowid, Assignment, Site}
+use Rattle.sql_meaning.specs.Values.{value_cmp, Int, Collation, Binary, Value}
+use Rattle.sql_meaning.specs.Rows.{Row, site_value, AtColumn, AtRowid, Assignment}
 use Rattle.sql_meaning.specs.IndexLists.{directed, SortColumn, entry_cmp, index_sort_columns}
 use Rattle.sql_meaning.specs.IndexLists.{index_entries, sort_columns}
 use Rattle.sql_meaning.specs.OrderState.{Position, is_alias, first_held, rest_parts}
 use Rattle.sql_meaning.specs.OrderState.{index_positions, columns_at, is_one_key, positions}
-use Rattle.sql_meaning.specs.OrderState.{column_site, part_held, path_held}
-use Rattle.sql_meaning.specs.Orders.{lex_of, same_collation, same_site}
+use Rattle.sql_meaning.specs.Orders.{lex_of}
 use Rattle.sql_meaning.specs.Schemas.{IndexColumn, AliasHolds, RisingRows, Index, Schema}
 use Rattle.sql_meaning.specs.Paths.{EqPart, same_rowid, IndexScan, Path, TableScan, RowidEq}
 use Rattle.sql_meaning.specs.Paths.{RowidRange, IndexSeek, Union, path_list, is_union, walk}
-use Rattle.sql_meaning.specs.Paths.{carried, OneKey, ManyKeys, NullKey, part_value, end_value}
+use Rattle.sql_meaning.specs.Paths.{carried}
 use Rattle.sql_meaning.specs.Plans.{directed_walk}
-use Rattle.sql_meaning.specs.Walks.{part_holds, End, parts_hold}
 use Rattle.sql_meaning.proofs.Scaled.{scaled_cmp}
 use Rattle.sql_meaning.proofs.Paths.{rowid_less, all_sort, entry_cmp_total, all_list, walk_is}
-use Rattle.sql_meaning.proofs.Links.{equal_back, equal_along, parts_of}
-use Rattle.sql_meaning.proofs.Offers.{and_left, and_right}
-use Rattle.sql_meaning.proofs.Order.{value_cmp_total}
 
 -- two rows by a position, in the walk's direction
 abbrev pub pos_cmp : Bool → Position → Row → Row → Ordering
@@ -84,7 +77,7 @@ alias_is None column h = absurd (cc)
 alias_is (Some a) column h = ap Some (eqb-true a column h)
 
 -- an index column that is the alias is worth the rowid
-column_site_is : (alias : Option ℕ) (column : ℕ) (row : Row) → AliasHolds alias row → (b : Bool)
+pub column_site_is : (alias : Option ℕ) (column : ℕ) (row : Row) → AliasHolds alias row → (b : Bool)
     → is_alias alias column ≡ b
     → site_value (cond b AtRowid (AtColumn column)) row ≡ site_value (AtColumn column) row
 column_site_is alias column row h true e = sym (h column (alias_is alias column e))
@@ -316,188 +309,3 @@ walk_carried schema params path d rows env u rising = turned d
         (directed_walk d (walk schema params path rows env))
     turned true = all_reverse _ (walk schema params path rows env) plain
     turned false = plain
-
--- what One and Null parts hold
-null_is : (v : Value) → is_null v ≡ true → v ≡ Null
-null_is Null h = refl
-null_is (Int n) h = absurd (cc)
-null_is (Dec u) h = absurd (cc)
-null_is (Text t) h = absurd (cc)
-null_is (Blob b) h = absurd (cc)
-
-not_many : (params : List Value) (env : Assignment) (collation : Collation) (p : EqPart)
-    (v w : Value)
-    → is_one_key p ≡ true → part_holds collation (part_value env params p) v ≡ true
-    → part_holds collation (part_value env params p) w ≡ true → value_cmp collation v w ≡ Ties
-not_many params env collation (OneKey key) v w o h k =
-    (parts_of (is_null v) (is_null w) (value_cmp collation v w)
-    (equal_along collation v _ w h (equal_back collation w _ k))).2
-not_many params env collation (ManyKeys keys) v w o h k = absurd (cc)
-not_many params env collation NullKey v w o h k =
-    ap₂ (value_cmp collation) (null_is v h) (null_is w k)
-
-int_same : (collation : Collation) (alias : Option ℕ) (column : ℕ) (x y : Row) → AliasHolds alias x
-    → AliasHolds alias y
-    → value_cmp collation (site_value (AtColumn column) x) (site_value (AtColumn column) y)
-    ≡ value_cmp collation (site_value (column_site alias column) x)
-    (site_value (column_site alias column) y)
-int_same collation alias column x y hx hy =
-    ap₂ (value_cmp collation) (sym (column_site_is alias column x hx (is_alias alias column) refl))
-    (sym (column_site_is alias column y hy (is_alias alias column) refl))
-
--- a column that a One or Null part holds is the same in all rows of the walk
-here_tied : (params : List Value) (env : Assignment) (alias : Option ℕ) (c : IndexColumn)
-    (p : EqPart) (x y : Row)
-    → AliasHolds alias x → AliasHolds alias y → is_one_key p ≡ true
-    → part_holds c.collation (part_value env params p) (site_value (AtColumn c.column) x) ≡ true
-    → part_holds c.collation (part_value env params p) (site_value (AtColumn c.column) y) ≡ true
-    → value_cmp c.collation (site_value (column_site alias c.column) x)
-    (site_value (column_site alias c.column) y) ≡ Ties
-here_tied params env alias c p x y hx hy o h k =
-    sym (int_same c.collation alias c.column x y hx hy)
-    ∙ not_many params env c.collation p (site_value (AtColumn c.column) x)
-    (site_value (AtColumn c.column) y) o h k
-
-pub collation_is : (a b : Collation) → same_collation a b ≡ true → a ≡ b
-collation_is Binary Binary h = refl
-collation_is Nocase Nocase h = refl
-collation_is Rtrim Rtrim h = refl
-collation_is Binary Nocase h = absurd (cc)
-collation_is Binary Rtrim h = absurd (cc)
-collation_is Nocase Binary h = absurd (cc)
-collation_is Nocase Rtrim h = absurd (cc)
-collation_is Rtrim Binary h = absurd (cc)
-collation_is Rtrim Nocase h = absurd (cc)
-
-pub site_is : (a b : Site) → same_site a b ≡ true → a ≡ b
-site_is AtRowid AtRowid h = refl
-site_is (AtColumn c) (AtColumn d) h = ap AtColumn (eqb-true c d h)
-site_is AtRowid (AtColumn d) h = absurd (cc)
-site_is (AtColumn c) AtRowid h = absurd (cc)
-
-either : {G : Type 0} (a b : Bool) → (a ≡ true → G) → (b ≡ true → G) → (a || b) ≡ true → G
-either true b f g e = f refl
-either false b f g e = g e
-
-pub part_tied : (params : List Value) (env : Assignment) (alias : Option ℕ) (cs : List IndexColumn)
-    (eqs : List EqPart) (low high : Option End) (x y : Row) (site : Site) (collation : Collation)
-    → AliasHolds alias x → AliasHolds alias y
-    → parts_hold (map spot_of cs) (map (part_value env params) eqs) low high x ≡ true
-    → parts_hold (map spot_of cs) (map (part_value env params) eqs) low high y ≡ true
-    → part_held alias cs eqs site collation ≡ true
-    → value_cmp collation (site_value site x) (site_value site y) ≡ Ties
-part_tied params env alias [] eqs low high x y site collation hx hy h k held = absurd (cc)
-part_tied params env alias (c ∷ cs) [] low high x y site collation hx hy h k held = absurd (cc)
-part_tied params env alias (c ∷ cs) (p ∷ ps) low high x y site collation hx hy h k held =
-    either _ _
-    (λ e. let same_s : column_site alias c.column ≡ site =
-    site_is _ site
-    (and_left _ (same_collation c.collation collation) (and_right (is_one_key p) _ e)) in
-    let same_c : c.collation ≡ collation =
-    collation_is c.collation collation
-    (and_right (same_site (column_site alias c.column) site) _ (and_right (is_one_key p) _ e)) in
-    sym (ap₂ (λ k s. value_cmp k (site_value s x) (site_value s y)) same_c same_s)
-    ∙ here_tied params env alias c p x y hx hy (and_left (is_one_key p) _ e)
-    (and_left _ (parts_hold (map spot_of cs) (map (part_value env params) ps) low high x) h)
-    (and_left _ (parts_hold (map spot_of cs) (map (part_value env params) ps) low high y) k))
-    (λ e. part_tied params env alias cs ps low high x y site collation hx hy
-    (and_right
-    (part_holds c.collation (part_value env params p) (site_value (AtColumn c.column) x)) _ h)
-    (and_right
-    (part_holds c.collation (part_value env params p) (site_value (AtColumn c.column) y)) _ k) e)
-    held
-
-pub directed_tie : (b : Bool) (collation : Collation) (v w : Value) → value_cmp collation v w ≡ Ties
-    → directed b (value_cmp collation) v w ≡ Ties
-directed_tie true collation v w h = tied_back (value_cmp_total collation) v w h
-directed_tie false collation v w h = h
-
--- and so is a position that is held
-abbrev pub Held : Bool → Row → Row → Position → Type 0
-Held d x y p = p.held ≡ true → pos_cmp d p x y ≡ Ties
-
-all_alias : (d : Bool) (x y : Row) (b : Bool) (ps : List Position) → AllByRecursion (Held d x y) ps
-    → AllByRecursion (Held d x y) (cond b [] ps)
-all_alias d x y true ps h = tt
-all_alias d x y false ps h = h
-
-positions_free : (alias : Option ℕ) (cs : List IndexColumn) (d : Bool) (x y : Row)
-    → AllByRecursion (Held d x y) (index_positions alias cs [])
-positions_free alias [] d x y = ((λ h. absurd (cc)), tt)
-positions_free alias (c ∷ cs) d x y = (
-  (λ h. absurd (cc)),
-  all_alias d x y (is_alias alias c.column) _ (positions_free alias cs d x y),
-)
-
-pub positions_tied : (params : List Value) (env : Assignment) (alias : Option ℕ)
-    (cs : List IndexColumn) (eqs : List EqPart) (low high : Option End) (d : Bool) (x y : Row)
-    → AliasHolds alias x → AliasHolds alias y
-    → parts_hold (map spot_of cs) (map (part_value env params) eqs) low high x ≡ true
-    → parts_hold (map spot_of cs) (map (part_value env params) eqs) low high y ≡ true
-    → AllByRecursion (Held d x y) (index_positions alias cs eqs)
-positions_tied params env alias [] eqs low high d x y hx hy h k = ((λ e. absurd (cc)), tt)
-positions_tied params env alias (c ∷ cs) [] low high d x y hx hy h k =
-    positions_free alias (c ∷ cs) d x y
-positions_tied params env alias (c ∷ cs) (p ∷ ps) low high d x y hx hy h k = (
-  (λ e. directed_tie (cond d (not c.falling) c.falling) c.collation _ _
-      (here_tied params env alias c p x y hx hy e
-      (and_left _ (parts_hold (map spot_of cs) (map (part_value env params) ps) low high x) h)
-      (and_left _ (parts_hold (map spot_of cs) (map (part_value env params) ps) low high y) k))),
-  all_alias d x y (is_alias alias c.column) _
-      (positions_tied params env alias cs ps low high d x y hx hy
-      (and_right
-      (part_holds c.collation (part_value env params p) (site_value (AtColumn c.column) x)) _ h)
-      (and_right
-      (part_holds c.collation (part_value env params p) (site_value (AtColumn c.column) y)) _ k)),
-)
-
--- for each path that isn't a union: what its parts hold is the same in two rows of its walk
-pub path_tied : (schema : Schema) (params : List Value) (env : Assignment) (alias : Option ℕ)
-    (path : Path) (x y : Row) (site : Site) (collation : Collation)
-    → AliasHolds alias x → AliasHolds alias y → carried schema params path env x ≡ true
-    → carried schema params path env y ≡ true → path_held schema alias path site collation ≡ true
-    → value_cmp collation (site_value site x) (site_value site y) ≡ Ties
-path_tied schema params env alias (IndexSeek index eqs low high) x y site collation hx hy h k held =
-    let are = spots_are (slice_get schema.indexes index) in
-    part_tied params env alias (columns_at (slice_get schema.indexes index)) eqs
-    (end_value env params low) (end_value env params high) x y site collation hx hy
-    (subst
-    (λ (ss : List SortColumn). parts_hold ss (map (part_value env params) eqs)
-    (end_value env params low) (end_value env params high) x ≡ true) are h)
-    (subst
-    (λ (ss : List SortColumn). parts_hold ss (map (part_value env params) eqs)
-    (end_value env params low) (end_value env params high) y ≡ true) are k) held
-path_tied schema params env alias TableScan x y site collation hx hy h k held = absurd (cc)
-path_tied schema params env alias (RowidEq part) x y site collation hx hy h k held = absurd (cc)
-path_tied schema params env alias (RowidRange low high) x y site collation hx hy h k held =
-    absurd (cc)
-path_tied schema params env alias (IndexScan index) x y site collation hx hy h k held = absurd (cc)
-path_tied schema params env alias (Union branches) x y site collation hx hy h k held = absurd (cc)
-
-pub path_positions_tied : (schema : Schema) (params : List Value) (env : Assignment)
-    (alias : Option ℕ) (path : Path) (d : Bool) (x y : Row)
-    → AliasHolds alias x → AliasHolds alias y → carried schema params path env x ≡ true
-    → carried schema params path env y ≡ true
-    → AllByRecursion (Held d x y) (positions schema alias path)
-path_positions_tied schema params env alias (IndexSeek index eqs low high) d x y hx hy h k =
-    let are = spots_are (slice_get schema.indexes index) in
-    positions_tied params env alias (columns_at (slice_get schema.indexes index)) eqs
-    (end_value env params low) (end_value env params high) d x y hx hy
-    (subst
-    (λ (ss : List SortColumn). parts_hold ss (map (part_value env params) eqs)
-    (end_value env params low) (end_value env params high) x ≡ true) are h)
-    (subst
-    (λ (ss : List SortColumn). parts_hold ss (map (part_value env params) eqs)
-    (end_value env params low) (end_value env params high) y ≡ true) are k)
-path_positions_tied schema params env alias TableScan d x y hx hy h k = ((λ e. absurd (cc)), tt)
-path_positions_tied schema params env alias (RowidEq part) d x y hx hy h k = (
-  (λ e. directed_tie (cond d true false) Binary _ _
-      (not_many params env Binary part (Int x.rowid) (Int y.rowid) e (and_left _ true h)
-      (and_left _ true k))),
-  tt,
-)
-path_positions_tied schema params env alias (RowidRange low high) d x y hx hy h k =
-    ((λ e. absurd (cc)), tt)
-path_positions_tied schema params env alias (IndexScan index) d x y hx hy h k =
-    positions_free alias (columns_at (slice_get schema.indexes index)) d x y
-path_positions_tied schema params env alias (Union branches) d x y hx hy h k = tt

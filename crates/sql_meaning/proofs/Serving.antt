@@ -24,7 +24,7 @@ use Rattle.sql_meaning.specs.Conjuncts.{may_serve}
 use Rattle.sql_meaning.specs.UsedTerms.{IsDirect}
 use Rattle.sql_meaning.proofs.Terms.{some_is}
 use Rattle.sql_meaning.proofs.Offers.{and_left, and_right}
-use Rattle.sql_meaning.proofs.Rises.{collation_is, site_is}
+use Rattle.sql_meaning.proofs.TiedPositions.{collation_is, site_is}
 
 no_conversion_is : (converted : Option Affinity) → no_conversion converted ≡ true → converted ≡ None
 no_conversion_is None h = refl

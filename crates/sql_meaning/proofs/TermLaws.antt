@@ -6,7 +6,7 @@ use Rattle.sql_meaning.specs.TermLaws.{TermsSayTheirConjuncts, LinkedColumnsAreE
 use Rattle.sql_meaning.specs.TermLaws.{DerivedTermsHold}
 use Rattle.sql_meaning.proofs.Terms.{serves_is}
 use Rattle.sql_meaning.proofs.Links.{linked_equal, derived_holds}
-use Rattle.sql_meaning.proofs.Offers.{fits_filter, chosen_all}
+use Rattle.sql_meaning.proofs.TermsHold.{fits_filter, chosen_all}
 
 pub terms_say_their_conjuncts : TermsSayTheirConjuncts
 terms_say_their_conjuncts =

@@ -1,4 +1,4 @@
-use Rattle.sql_meaning.proofs.TermLists.{rowid_of_terms}
+use Rattle.sql_meaning.proofs.ListedTerms.{rowid_of_terms}
 use Rattle.sql_meaning.proofs.offering.rowid_seeks_are_offers.Goals as goal
 
 pub returns : goal.returns

@@ -1,4 +1,4 @@
-use Rattle.sql_meaning.proofs.TermLists.{union_of_terms}
+use Rattle.sql_meaning.proofs.BranchTerms.{union_of_terms}
 use Rattle.sql_meaning.proofs.offering.unions_are_offers.Goals as goal
 
 pub returns : goal.returns
