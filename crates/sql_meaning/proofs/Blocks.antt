@@ -7,7 +7,6 @@ use Rattle.std.proofs.lemmas.List.Concat.{flat_map-append}
 use Rattle.std.proofs.lemmas.List.Sorted.{IsPermutation-sym}
 use Rattle.list_laws.specs.Tally.{tally}
 use Rattle.list_laws.specs.Nest.{Distinct, Apart, Rearranges, same, next, swapped, after}
-use Rattle.list_laws.specs.FirstComing.{has}
 use Rattle.list_laws.proofs.Lists.{all_map, flat_map_same}
 use Rattle.list_laws.proofs.Nests.{all_reorders}
 use Rattle.list_laws.proofs.Arrangements.{Rearranges-from_permutation}

@@ -3,7 +3,7 @@ use Rattle.std.specs.List.{AllByRecursion, slice_get, filter}
 use Rattle.std.proofs.Common.{◌≡◌, ℕ, Bool, cond, List, [], ◌∷◌, refl, ap, true, false, not, ◌&&◌}
 use Rattle.std.proofs.Common.{Option, Some, None, ◌∙◌, subst, sym, zero-add, ◌<◌, map, length}
 use Rattle.std.proofs.lemmas.List.Elements.{filter_agree}
-use Rattle.list_laws.specs.Nest.{place, nested, Looks, AreSteps}
+use Rattle.list_laws.specs.Nest.{place, Looks, AreSteps}
 use Rattle.list_laws.specs.Tally.{tally, SameTally}
 use Rattle.list_laws.proofs.Lists.{all_always, filter-filter}
 use Rattle.list_laws.proofs.Tallies.{SameTally-filter}

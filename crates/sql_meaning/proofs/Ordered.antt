@@ -19,7 +19,6 @@ use Rattle.sql_meaning.specs.Values.{Value, value_cmp}
 use Rattle.sql_meaning.specs.Evaluation.{ev}
 use Rattle.sql_meaning.specs.IndexLists.{directed}
 use Rattle.sql_meaning.specs.Orders.{by_keys}
-use Rattle.sql_meaning.specs.Paths.{walk}
 use Rattle.sql_meaning.specs.Plans.{missing_if}
 use Rattle.sql_meaning.proofs.Terms.{bare_is}
 use Rattle.sql_meaning.proofs.Order.{value_cmp_total}

@@ -10,7 +10,6 @@ use Rattle.sql_meaning.specs.Rows.{Assignment}
 use Rattle.sql_meaning.specs.Expressions.{BExpr, Lit, Param, Column, Rowid, Plus, Collate, Cmp}
 use Rattle.sql_meaning.specs.Expressions.{OneOf, IsNull, Not, All, Any, BExprs, Nil, More, flat}
 use Rattle.sql_meaning.specs.Expressions.{flat_all}
-use Rattle.sql_meaning.specs.Paths.{walk}
 use Rattle.sql_meaning.specs.Evaluation.{holds, and3, is_true, all3, evs, any3}
 use Rattle.sql_meaning.specs.Terms.{Term, term_holds}
 use Rattle.sql_meaning.specs.UsedTerms.{all_terms, any_terms, Used, AllOf, AnyOf, used_holds}

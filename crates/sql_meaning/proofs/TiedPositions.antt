@@ -14,7 +14,7 @@ use Rattle.sql_meaning.specs.OrderState.{is_one_key, positions, column_site, par
 use Rattle.sql_meaning.specs.Orders.{same_collation, same_site}
 use Rattle.sql_meaning.specs.Schemas.{IndexColumn, AliasHolds, Schema}
 use Rattle.sql_meaning.specs.Paths.{EqPart, IndexScan, Path, TableScan, RowidEq, RowidRange}
-use Rattle.sql_meaning.specs.Paths.{IndexSeek, Union, walk, carried, OneKey, ManyKeys, NullKey}
+use Rattle.sql_meaning.specs.Paths.{IndexSeek, Union, carried, OneKey, ManyKeys, NullKey}
 use Rattle.sql_meaning.specs.Paths.{part_value, end_value}
 use Rattle.sql_meaning.specs.Walks.{part_holds, End, parts_hold}
 use Rattle.sql_meaning.proofs.Links.{equal_back, equal_along, parts_of}
