@@ -121,7 +121,7 @@ two_cases true false n m e a b c d =
 two_cases false true n m e a b c d =
     let none : n ≡ 0 = b refl in let some : 1 ≤ m = c refl in absurd (omega arith)
 
-has_same : {X : Type 0} (E : X → X → Bool) (xs ys : List X) (v : X) → SameTally xs ys
+pub has_same : {X : Type 0} (E : X → X → Bool) (xs ys : List X) (v : X) → SameTally xs ys
     → has E xs v ≡ has E ys v
 has_same E xs ys v t =
     two_cases (has E xs v) (has E ys v) (tally (λ y. cond (E y v) 1 0) xs)

@@ -40,5 +40,6 @@ pub mod Choices
 pub mod OfferedPaths
 pub mod Serving
 pub mod TermLists
+pub mod LinkClosure
 pub mod ListedTerms
 pub mod BranchTerms

@@ -50,7 +50,7 @@ class_is BlobAffinity Numeric h = absurd (cc)
 class_is BlobAffinity TextAffinity h = absurd (cc)
 class_is BlobAffinity BlobAffinity h = refl
 
-ref_is : (c d : ColumnRef) → same_ref c d ≡ true → c ≡ d
+pub ref_is : (c d : ColumnRef) → same_ref c d ≡ true → c ≡ d
 ref_is c d h =
     ap₂ (λ i s. record { item = i; site = s })
     (eqb-true c.item d.item (and_left _ (same_site c.site d.site) h))
@@ -210,7 +210,7 @@ reach_is schema items es c zero ps seen l h = h
 reach_is schema items es c (suc n) ps seen l h =
     reach_is schema items es c n ps (extend ps seen) l (extend_is schema items es c ps seen l h)
 
-itself : (c : ColumnRef) → same_ref c c ≡ true
+pub itself : (c : ColumnRef) → same_ref c c ≡ true
 itself c =
     both (c.item == c.item) (same_site c.site c.site) (eq-eqb c.item c.item refl)
     (site_itself c.site)

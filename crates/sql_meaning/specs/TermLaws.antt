@@ -11,6 +11,8 @@ use Rattle.sql_meaning.specs.Terms.{Term, TermKind, Serves, kind_holds, term_hol
 use Rattle.sql_meaning.specs.Links.{Linked, Derives}
 use Rattle.sql_meaning.specs.Statements.{Bound, FitsStatement, exprs_of, chosen_hold}
 use Rattle.sql_meaning.specs.Conjuncts.{may_derive}
+use Rattle.sql_meaning.specs.TermLists.{has_ref, linked_to, same_ref}
+use Rattle.std.specs.Prelude.{false}
 
 -- a conjunct that serves a column is true exactly where its term is true of the column
 abbrev pub TermsSayTheirConjuncts : Type 0
@@ -28,6 +30,14 @@ LinkedColumnsAreEqual =
     → AllByRecursion (λ e. holds env params e ≡ true) es
     → compares IsEqual (own_column schema items c).collation (cell env c.item c.site)
     (cell env d.item d.site) ≡ true
+
+-- the listed columns are just those that the conjuncts link with the column, without itself
+abbrev pub ListsHaveTheLinkedColumns : Type 0
+ListsHaveTheLinkedColumns =
+    (schema : Schema) (items : List Item) (es : List BExpr) (c : ColumnRef)
+    → AllByRecursion (Linked schema items es c) (linked_to schema items es c)
+    × ((d : ColumnRef) → Linked schema items es c d → same_ref d c ≡ false
+    → has_ref d (linked_to schema items es c) ≡ true)
 
 -- where all conjuncts hold that may derive terms for the item, each derived term holds
 abbrev pub DerivedTermsHold : Type 0

@@ -38,18 +38,22 @@ pub record Pair : Type 0 where
   pub first : ColumnRef
   pub second : ColumnRef
 
+-- the comparison is one that both columns own, and their affinities are of one class
+abbrev pub owns_link : Schema → List Item → ColumnRef → ColumnRef → Collation → Bool
+owns_link schema items c d collation =
+    not (c.item == d.item)
+    && (same_collation (own_column schema items c).collation collation
+    && (same_collation (own_column schema items d).collation collation
+    && (class_number (own_column schema items c).affinity
+    == class_number (own_column schema items d).affinity)))
+
 -- the two columns that a comparison links
 abbrev pub pair_of : Schema → List Item → Option ColumnRef → Option ColumnRef → Collation
     → List Pair
 pair_of schema items None d collation = []
 pair_of schema items (Some c) None collation = []
 pair_of schema items (Some c) (Some d) collation =
-    cond
-    (not (c.item == d.item)
-    && (same_collation (own_column schema items c).collation collation
-    && (same_collation (own_column schema items d).collation collation
-    && (class_number (own_column schema items c).affinity == class_number
-    (own_column schema items d).affinity)))) (record { first = c; second = d } ∷ []) []
+    cond (owns_link schema items c d collation) (record { first = c; second = d } ∷ []) []
 
 abbrev pub link_pair : Schema → List Item → BExpr → List Pair
 link_pair schema items (Cmp IsEqual left right left_conversion right_conversion collation) =

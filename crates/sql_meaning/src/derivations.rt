@@ -1,6 +1,7 @@
 //! Laws of terms, each on a function that does nothing.
 
-ghost use Rattle.sql_meaning.specs.TermLaws.{DerivedTermsHold, LinkedColumnsAreEqual, TermsSayTheirConjuncts};
+ghost use Rattle.sql_meaning.specs.TermLaws.{DerivedTermsHold, LinkedColumnsAreEqual};
+ghost use Rattle.sql_meaning.specs.TermLaws.{ListsHaveTheLinkedColumns, TermsSayTheirConjuncts};
 
 /// A conjunct that serves a column is true exactly where its term is true of the column.
 pub fn terms_say_their_conjuncts()
@@ -11,6 +12,12 @@ pub fn terms_say_their_conjuncts()
 /// own.
 pub fn linked_columns_are_equal()
     ensures { LinkedColumnsAreEqual }
+{}
+
+/// The columns that are listed as linked with a column are all those that links and chains of links
+/// join with it, and no others.
+pub fn lists_have_the_linked_columns()
+    ensures { ListsHaveTheLinkedColumns }
 {}
 
 /// Where the common conjuncts hold, each derived equality holds. So a walk by it loses no row of an

@@ -13,7 +13,10 @@ mod values;
 mod walks;
 
 pub use conditions::{conjuncts_say_their_conditions, values_depend_on_named_items};
-pub use derivations::{derived_terms_hold, linked_columns_are_equal, terms_say_their_conjuncts};
+pub use derivations::{
+    derived_terms_hold, linked_columns_are_equal, lists_have_the_linked_columns,
+    terms_say_their_conjuncts,
+};
 pub use nested_loops::{
     blocks_leave_out_what_fails, loops_give_the_rows, offered_plans_mean, plans_give_the_order,
 };
