@@ -39,6 +39,7 @@ pub mod ExamplesOfPlans
 pub mod Choices
 pub mod OfferedPaths
 pub mod Serving
+pub mod ServingExact
 pub mod TermLists
 pub mod LinkClosure
 pub mod ListedTerms

@@ -29,7 +29,7 @@ plain_names (Column item column) c h = ap (λ (r : ColumnRef). r.item ∷ []) (s
 plain_names (Rowid item) c h = ap (λ (r : ColumnRef). r.item ∷ []) (some_is _ c h)
 plain_names e c h = absurd (cc)
 
-bare_names : (e : BExpr) (c : ColumnRef) → bare_column e ≡ Some c → names e ≡ c.item ∷ []
+pub bare_names : (e : BExpr) (c : ColumnRef) → bare_column e ≡ Some c → names e ≡ c.item ∷ []
 bare_names (Collate e collation) c h = plain_names e c h
 bare_names e c h = plain_names e c h
 

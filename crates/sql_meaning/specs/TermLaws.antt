@@ -11,6 +11,9 @@ use Rattle.sql_meaning.specs.Terms.{Term, TermKind, Serves, kind_holds, term_hol
 use Rattle.sql_meaning.specs.Links.{Linked, Derives}
 use Rattle.sql_meaning.specs.Statements.{Bound, FitsStatement, exprs_of, chosen_hold}
 use Rattle.sql_meaning.specs.Conjuncts.{may_derive}
+use Rattle.sql_meaning.specs.Serving.{Served, serving}
+use Rattle.sql_meaning.specs.Terms.{IsNothing}
+use Rattle.std.specs.Prelude.{◌⊎◌, Some}
 use Rattle.sql_meaning.specs.TermLists.{has_ref, linked_to, same_ref}
 use Rattle.std.specs.Prelude.{false}
 
@@ -20,6 +23,24 @@ TermsSayTheirConjuncts =
     (item : ℕ) (site : Site) (collation : Collation) (kind : TermKind) (e : BExpr)
     → Serves item site collation kind e → (env : Assignment) (params : List Value)
     → holds env params e ≡ kind_holds env params collation kind (cell env item site)
+
+-- the function finds the column and what is said of it; for IS NULL any collation will do
+pub record FindsTheTerm (own : Site → Collation) (item : ℕ) (site : Site) (collation : Collation)
+    (kind : TermKind) (e : BExpr) : Type 0
+  where
+    pub served : Served
+    pub is : serving own item e ≡ Some served
+    pub same_column : served.site ≡ site
+    pub same_kind : served.kind ≡ kind
+    pub same_order : (served.collation ≡ collation) ⊎ (kind ≡ IsNothing)
+
+-- what the function answers serves the column, and wherever a conjunct serves, the function answers
+abbrev pub ServingIsExact : Type 0
+ServingIsExact =
+    (own : Site → Collation) (item : ℕ) (e : BExpr)
+    → ((s : Served) → serving own item e ≡ Some s → Serves item s.site s.collation s.kind e)
+    × ((site : Site) (collation : Collation) (kind : TermKind) → Serves item site collation kind e
+    → FindsTheTerm own item site collation kind e)
 
 -- where conjuncts hold, the columns that they link are equal by their own collation
 abbrev pub LinkedColumnsAreEqual : Type 0

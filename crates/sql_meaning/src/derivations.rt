@@ -1,11 +1,18 @@
 //! Laws of terms, each on a function that does nothing.
 
 ghost use Rattle.sql_meaning.specs.TermLaws.{DerivedTermsHold, LinkedColumnsAreEqual};
-ghost use Rattle.sql_meaning.specs.TermLaws.{ListsHaveTheLinkedColumns, TermsSayTheirConjuncts};
+ghost use Rattle.sql_meaning.specs.TermLaws.{ListsHaveTheLinkedColumns, ServingIsExact};
+ghost use Rattle.sql_meaning.specs.TermLaws.{TermsSayTheirConjuncts};
 
 /// A conjunct that serves a column is true exactly where its term is true of the column.
 pub fn terms_say_their_conjuncts()
     ensures { TermsSayTheirConjuncts }
+{}
+
+/// The function by which terms are listed answers exactly where a conjunct serves a column of the
+/// item, with that column and what the conjunct says of it.
+pub fn serving_is_exact()
+    ensures { ServingIsExact }
 {}
 
 /// Where the conjuncts hold, columns that they link are equal, under the collation that all of them

@@ -14,7 +14,7 @@ mod walks;
 
 pub use conditions::{conjuncts_say_their_conditions, values_depend_on_named_items};
 pub use derivations::{
-    derived_terms_hold, linked_columns_are_equal, lists_have_the_linked_columns,
+    derived_terms_hold, linked_columns_are_equal, lists_have_the_linked_columns, serving_is_exact,
     terms_say_their_conjuncts,
 };
 pub use nested_loops::{
