@@ -10,6 +10,7 @@ use Rattle.std.proofs.lemmas.Cmp.{eq_by_cmp_equiv}
 use Rattle.list_laws.specs.FirstComing.{has, keep_first, ties_any}
 use Rattle.list_laws.specs.Order.{RisesStrictly, Ascends, sort_by}
 use Rattle.list_laws.specs.Tally.{tally, SameTally}
+use Rattle.list_laws.proofs.Bools.{or_false_right, or_false_left}
 use Rattle.list_laws.proofs.Lists.{all_map, all_both}
 use Rattle.list_laws.proofs.Unions.{has_congr, has_some, has_none}
 use Rattle.list_laws.proofs.Orders.{SameTally-sort_by}
@@ -22,14 +23,6 @@ all_keep E P (x ∷ xs) seen h =
     (cond b (keep_first E seen xs) (x ∷ keep_first E (x ∷ seen) xs)))
     [ true ↦ all_keep E P xs seen h.1 | false ↦ (h.0, all_keep E P xs (x ∷ seen) h.1) ]
 
-or_right : (a b : Bool) → (a || b) ≡ false → b ≡ false
-or_right true b h = absurd (cc)
-or_right false b h = h
-
-or_left : (a b : Bool) → (a || b) ≡ false → a ≡ false
-or_left true b h = h
-or_left false b h = refl
-
 unseen_case : {X : Type 0} (E : X → X → Bool) (x : X) (xs seen : List X)
     → AllByRecursion (λ y. has E seen y ≡ false) (keep_first E seen xs)
     → AllByRecursion (λ y. has E (x ∷ seen) y ≡ false) (keep_first E (x ∷ seen) xs) → (b : Bool)
@@ -38,7 +31,7 @@ unseen_case : {X : Type 0} (E : X → X → Bool) (x : X) (xs seen : List X)
     (cond b (keep_first E seen xs) (x ∷ keep_first E (x ∷ seen) xs))
 unseen_case E x xs seen h k true e = h
 unseen_case E x xs seen h k false e =
-    (e, all_map _ _ _ (λ y n. or_right (E x y) (has E seen y) n) k)
+    (e, all_map _ _ _ (λ y n. or_false_right (E x y) (has E seen y) n) k)
 
 -- nothing that is kept was seen
 all_unseen : {X : Type 0} (E : X → X → Bool) (xs seen : List X)
@@ -61,7 +54,7 @@ rises_case : {K : Type 0} (R : K → K → Ordering) (x : K) (xs seen : List K)
 rises_case R x xs seen le h k true = h
 rises_case R x xs seen le h k false = (
   all_both _ _ _ _
-      (λ y l n. le_not_eq (R x y) l (or_left (is_eq (R x y)) (has (eq_by_cmp R) seen y) n))
+      (λ y l n. le_not_eq (R x y) l (or_false_left (is_eq (R x y)) (has (eq_by_cmp R) seen y) n))
       (all_keep (eq_by_cmp R) _ xs (x ∷ seen) le) (all_unseen (eq_by_cmp R) xs (x ∷ seen)),
   k,
 )

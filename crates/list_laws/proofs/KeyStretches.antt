@@ -9,6 +9,8 @@ use Rattle.std.proofs.Common.{◌∙◌, sym}
 use Rattle.std.proofs.lemmas.Cmp.{alike_right, tied_itself}
 use Rattle.list_laws.specs.FirstComing.{ties_any}
 use Rattle.list_laws.specs.Order.{Ascends, RisesStrictly}
+use Rattle.list_laws.proofs.Bools.{or_cases}
+use Rattle.list_laws.proofs.Orders.{eq_at}
 use Rattle.list_laws.proofs.Lists.{filter_none, all_map}
 
 -- once q passes, p does no more
@@ -33,26 +35,17 @@ filter_or p q (x ∷ xs) h =
     join_case (p x) (q x) x (filter p xs) (filter q xs) _
     (λ e. ((h.0 e).0, filter_none p xs (h.0 e).1)) (filter_or p q xs h.1)
 
-is_eq_from : (o : Ordering) → is_eq o ≡ true → o ≡ Equal
-is_eq_from Less h = absurd (cc)
-is_eq_from Equal h = refl
-is_eq_from Greater h = absurd (cc)
-
 not_eq : (o : Ordering) → (o ≡ Equal → ⊥) → is_eq o ≡ false
 not_eq Less h = refl
 not_eq Equal h = absurd (h refl)
 not_eq Greater h = refl
-
-either : {G : Type 0} (a b : Bool) → (a ≡ true → G) → (b ≡ true → G) → (a || b) ≡ true → G
-either true b f g e = f refl
-either false b f g e = g e
 
 -- a value that ties with one of the later keys is above the first
 above_first : {K : Type 0} {R : K → K → Ordering} → IsTotalOrder R → (k : K) (ks : List K) (v : K)
     → AllByRecursion (λ j. R k j ≡ Less) ks → ties_any R ks v ≡ true → R k v ≡ Less
 above_first o k [] v h e = absurd (cc)
 above_first {K} {R} o k (j ∷ ks) v h e =
-    either (is_eq (R v j)) (ties_any R ks v) (λ t. alike_right o v j k (is_eq_from _ t) ∙ h.0)
+    or_cases (is_eq (R v j)) (ties_any R ks v) (λ t. alike_right o v j k (eq_at _ t) ∙ h.0)
     (λ t. above_first o k ks v h.1 t) e
 
 -- and a later value of an ordered list doesn't tie with the first

@@ -1,7 +1,7 @@
 -- Members of a list, all of which have a property.
 use Rattle.std.specs.List.{AllByRecursion, flat_map, filter}
-use Rattle.std.proofs.Common.{List, [], ◌∷◌, ◌++◌, ◌≡◌, ◌≢◌, ℕ, zero, suc, refl, ap, set, Bool}
-use Rattle.std.proofs.Common.{true, false, cond, ◌&&◌, ◌∙◌}
+use Rattle.std.proofs.Common.{slice_get, Some, zero, suc, List, [], ◌∷◌, ◌++◌, ◌≡◌, ◌≢◌, ℕ, refl}
+use Rattle.std.proofs.Common.{ap, set, Bool, true, false, cond, ◌&&◌, ◌∙◌}
 use Rattle.std.proofs.lemmas.List.Elements.{filter-append}
 use Rattle.list_laws.specs.Nest.{Env, Agree}
 
@@ -96,3 +96,8 @@ pub agree_second : {X : Type 0} (is js : List ℕ) (env a : Env X) → Agree (is
     → Agree js env a
 agree_second [] js env a h = h
 agree_second (i ∷ is) js env a h = agree_second is js env a h.1
+
+pub all_from_at : {X : Type 0} (P : X → Type 0) (xs : List X)
+    → ((k : ℕ) (x : X) → slice_get xs k ≡ Some x → P x) → AllByRecursion P xs
+all_from_at P [] f = tt
+all_from_at P (x ∷ xs) f = (f 0 x refl, all_from_at P xs (λ k y e. f (suc k) y e))

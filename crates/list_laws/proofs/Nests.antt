@@ -8,6 +8,7 @@ use Rattle.list_laws.specs.Nest.{Env, place, product, Agree, Apart, Step, nested
 use Rattle.list_laws.specs.Nest.{IsStep, Inside, AreSteps, Distinct, Rearranges, same, next}
 use Rattle.list_laws.specs.Nest.{swapped, after, AreFree, all_hold, IsPartOf}
 use Rattle.list_laws.specs.Tally.{tally, SameTally}
+use Rattle.list_laws.proofs.Bools.{alike}
 use Rattle.list_laws.proofs.Lists.{all_map, all_always, all_flat_map, set_exchange, filter-flat_map}
 use Rattle.list_laws.proofs.Lists.{flat_map_same, filter-filter, agree_first, agree_second}
 use Rattle.list_laws.proofs.Tallies.{tally_zero, tally-filter, tally_agree, tally-flat_map}
@@ -233,11 +234,6 @@ block_law {X} rows free cs block ts order left G re inside distinct apart steps 
           (all_reorders _ _ _ re (agree_first order left h a agrees))
           (agree_second order left h a agrees)) e;
     }
-
-alike : (a b : Bool) → (a ≡ true → b ≡ true) → (b ≡ true → a ≡ true) → a ≡ b
-alike true b f g = sym (f refl)
-alike false true f g = g refl
-alike false false f g = refl
 
 -- one block of all items, from the one empty assignment: nothing is left out
 pub join_law : {X : Type 0} {free : ℕ → Bool} (rows : ℕ → Env X → List X) → AreFree free rows

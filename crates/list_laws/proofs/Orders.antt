@@ -12,6 +12,7 @@ use Rattle.std.proofs.lemmas.List.Elements.{filter_agree}
 use Rattle.list_laws.specs.Order.{Ascends, insert_by, sort_by}
 use Rattle.list_laws.specs.Stretch.{Rises, stretch}
 use Rattle.list_laws.specs.Tally.{tally, SameTally}
+use Rattle.list_laws.proofs.Bools.{not_true}
 use Rattle.list_laws.proofs.Lists.{all_map, all_filter, all_both, filter_all}
 use Rattle.list_laws.proofs.Stretches.{stretch_is}
 
@@ -123,15 +124,11 @@ lt_from_gt Less = refl
 lt_from_gt Equal = refl
 lt_from_gt Greater = refl
 
-not_gt : (b : Bool) → not b ≡ true → b ≡ false
-not_gt true h = sym h
-not_gt false h = refl
-
 pub not_below_up : {K : Type 0} {R : K → K → Ordering} → IsTotalOrder R → (x y k : K)
     → is_le (R x y) ≡ true → not (is_lt (R x k)) ≡ true → not (is_lt (R y k)) ≡ true
 not_below_up {K} {R} o x y k le p =
     let low : is_gt (R k x) ≡ false =
-    not_gt _ (sym (lt_from_gt (R k x)) ∙ ap (λ v. not (is_lt v)) (sym (o.antisymm x k)) ∙ p) in
+    not_true _ (sym (lt_from_gt (R k x)) ∙ ap (λ v. not (is_lt v)) (sym (o.antisymm x k)) ∙ p) in
     ap (λ v. not (is_lt v)) (o.antisymm y k) ∙ lt_from_gt (R k y)
     ∙ ap not (upto o k x y low (gt_from_le _ le))
 
@@ -192,7 +189,7 @@ stretch_at {X} {K} {R} o f k xs h =
     (Rises-above o f k xs h)
     ∙ filter_agree _ _ (λ x. at_from_sides (R (f x) k)) xs
 
-eq_at : (o : Ordering) → is_eq o ≡ true → o ≡ Equal
+pub eq_at : (o : Ordering) → is_eq o ≡ true → o ≡ Equal
 eq_at Less h = absurd (cc)
 eq_at Equal h = refl
 eq_at Greater h = absurd (cc)

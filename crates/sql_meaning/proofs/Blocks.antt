@@ -7,6 +7,8 @@ use Rattle.std.proofs.lemmas.List.Concat.{flat_map-append}
 use Rattle.std.proofs.lemmas.List.Sorted.{IsPermutation-sym}
 use Rattle.list_laws.specs.Tally.{tally}
 use Rattle.list_laws.specs.Nest.{Distinct, Apart, Rearranges, same, next, swapped, after}
+use Rattle.list_laws.proofs.Bools.{or_false_right, or_false_left, or_later, and_left, and_right}
+use Rattle.list_laws.proofs.Bools.{or_cases, cond_same}
 use Rattle.list_laws.proofs.Lists.{all_map, flat_map_same}
 use Rattle.list_laws.proofs.Nests.{all_reorders}
 use Rattle.list_laws.proofs.Arrangements.{Rearranges-from_permutation}
@@ -20,23 +22,13 @@ use Rattle.sql_meaning.specs.Plans.{Loop, consumed_by, always}
 use Rattle.sql_meaning.specs.Offers.{AreOffers, loop_items}
 use Rattle.sql_meaning.specs.PlanLaws.{first_in, placed_by, BlocksLeaveOutWhatFails}
 use Rattle.sql_meaning.proofs.Databases.{database_for}
-use Rattle.sql_meaning.proofs.Offers.{and_left, and_right}
 use Rattle.sql_meaning.proofs.Means.{has_append}
 use Rattle.sql_meaning.proofs.PlanRows.{numbers_distinct}
-use Rattle.sql_meaning.proofs.Plans.{or_cases, nested_used}
+use Rattle.sql_meaning.proofs.Plans.{nested_used}
 use Rattle.sql_meaning.proofs.KeptLoops.{uses}
 use Rattle.sql_meaning.proofs.Equals.{rows_eq, rows_true, rows_itself}
 use Rattle.sql_meaning.proofs.ServedNames.{consumed_names}
-use Rattle.sql_meaning.proofs.OneBlock.{some_fails, ConsumesOwn, cond_same, block_of_loops}
-
--- the items of loops that are offers: none is placed before, and each stands once
-or_false_left : (a b : Bool) → (a || b) ≡ false → a ≡ false
-or_false_left true b h = absurd (cc)
-or_false_left false b h = refl
-
-or_false_right : (a b : Bool) → (a || b) ≡ false → b ≡ false
-or_false_right true b h = absurd (cc)
-or_false_right false b h = h
+use Rattle.sql_meaning.proofs.OneBlock.{some_fails, ConsumesOwn, block_of_loops}
 
 unlike : (m n : ℕ) (b : Bool) → ((m == n) || b) ≡ false → m ≢ n
 unlike m n b h e =
@@ -114,10 +106,6 @@ all_in_more (n ∷ ns) ms os f h =
     rw (f n (and_left _ (all_in ns ms) h))
     (all_in_more ns ms os f (and_right (has_number n ms) _ h))
 
-or_true_right : (a b : Bool) → b ≡ true → (a || b) ≡ true
-or_true_right true b h = refl
-or_true_right false b h = h
-
 -- a list that has a member is not empty
 not_empty : (m : ℕ) (ns : List ℕ) → has_number m ns ≡ true → is_empty ns ≡ false
 not_empty m [] h = absurd (cc)
@@ -143,7 +131,7 @@ consumed_before schema bound placed (l ∷ ls) used number c o is h =
     (λ e. let named = consumed_names schema bound placed l (used l) number c o.0 e is in (
       all_in_more (names c.expr) (l.item ∷ placed) (placed_by ls (l.item ∷ placed))
           (λ n there. has_placed n ls (l.item ∷ placed)
-          ∙ or_true_right (has_number n (loop_items ls)) _ there)
+          ∙ or_later (has_number n (loop_items ls)) _ there)
           named.inside,
       not_empty l.item (names c.expr) named.there,
     ))

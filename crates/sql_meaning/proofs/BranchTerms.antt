@@ -2,7 +2,7 @@
 use Rattle.std.specs.List.{AllByRecursion}
 use Rattle.std.proofs.Common.{◌≡◌, true, refl, ℕ, List, Bool, false, [], ◌∷◌, Option, Some}
 use Rattle.std.proofs.Common.{slice_get, None, inl, inr, map}
-use Rattle.list_laws.proofs.Lists.{all_flat_map, all_map, all_append}
+use Rattle.list_laws.proofs.Lists.{all_flat_map, all_map, all_append, all_from_at}
 use Rattle.sql_meaning.specs.Values.{Collation}
 use Rattle.sql_meaning.specs.TermLists.{derived_terms, is_equal, is_within, is_low, is_high}
 use Rattle.sql_meaning.specs.TermLists.{all_sites, branch_own, derived_if, branch_column}
@@ -22,7 +22,6 @@ use Rattle.sql_meaning.proofs.Serving.{serving_is}
 use Rattle.sql_meaning.proofs.Choices.{AreColumnTerms}
 use Rattle.sql_meaning.proofs.OfferedPaths.{seek_plain, rowid_plain, IsPlainOffer, BranchOffers}
 use Rattle.sql_meaning.proofs.OfferedPaths.{union_offer}
-use Rattle.sql_meaning.proofs.TermLists.{from_at}
 use Rattle.sql_meaning.proofs.ListedTerms.{derived_are, kinds, equal_part, within_part, low_edge}
 use Rattle.sql_meaning.proofs.ListedTerms.{high_edge}
 
@@ -40,7 +39,7 @@ branch_own_are : (schema : Schema) (bound : Bound) (c : Conjunct) (item number :
     → AllByRecursion (IsBranchTerm schema bound c item es) (branch_own schema bound item number es)
 branch_own_are schema bound c item number es =
     all_flat_map _ _ es
-    (from_at _ es (λ k e at. branch_one schema bound c item number es k e at _ _ refl))
+    (all_from_at _ es (λ k e at. branch_one schema bound c item number es k e at _ _ refl))
 
 -- a term of a branch, as the lists of a column want it
 abbrev pub IsListed : Schema → Bound → Conjunct → ℕ → List BExpr → Site → Term → Type 0

@@ -5,6 +5,7 @@ use Rattle.std.proofs.Common.{◌≡◌, Some, Bool, true, false, cond, List, ap
 use Rattle.std.proofs.Common.{◌∷◌, refl, ℕ, ◌⊎◌, inl, inr, Option, None, map, suc, slice_get}
 use Rattle.list_laws.proofs.Lists.{all_append, all_flat_map}
 use Rattle.list_laws.proofs.FirstComings.{all_keep}
+use Rattle.list_laws.proofs.Bools.{and_left, and_right}
 use Rattle.sql_meaning.specs.Paths.{Edge, KeyExpr}
 use Rattle.sql_meaning.specs.Terms.{Low, High, Term, part_of, keys_of, TermKind, Equals, Within}
 use Rattle.sql_meaning.specs.Terms.{IsNothing, MayUse, Carries, LowFrom, HighFrom}
@@ -23,7 +24,7 @@ use Rattle.sql_meaning.specs.IndexLists.{SortColumn}
 use Rattle.sql_meaning.proofs.Terms.{some_is}
 use Rattle.sql_meaning.proofs.TiedPositions.{site_is, collation_is}
 use Rattle.sql_meaning.proofs.Rises.{spot_of, alias_is}
-use Rattle.sql_meaning.proofs.Offers.{and_left, and_right, all_in_all}
+use Rattle.sql_meaning.proofs.Offers.{all_in_all}
 use Rattle.sql_meaning.proofs.Paths.{all_sort}
 
 -- the terms of a column as they are listed: of the column, of the right kind, and each a term of

@@ -1,6 +1,7 @@
 -- Conjuncts say what their conditions say.
 use Rattle.std.proofs.Common.{◌≡◌, ℕ, Bool, true, false, not, ◌&&◌, ◌||◌, List, [], ◌∷◌, ◌++◌, map}
 use Rattle.std.proofs.Common.{Option, refl, ap, ap₂, ◌∙◌}
+use Rattle.list_laws.proofs.Bools.{and_assoc}
 use Rattle.sql_meaning.specs.Values.{Value}
 use Rattle.sql_meaning.specs.Rows.{Assignment}
 use Rattle.sql_meaning.specs.Expressions.{BExpr, flat}
@@ -9,10 +10,6 @@ use Rattle.sql_meaning.specs.Statements.{Conjunct, chosen_hold}
 use Rattle.sql_meaning.specs.Conjuncts.{conjuncts_of}
 use Rattle.sql_meaning.specs.ConditionLaws.{ConjunctsSayTheirConditions}
 use Rattle.sql_meaning.proofs.TermsHold.{all_hold_of, flat_holds}
-
-and_assoc : (a b c : Bool) → (a && (b && c)) ≡ ((a && b) && c)
-and_assoc true b c = refl
-and_assoc false b c = refl
 
 hold-append : (p : Conjunct → Bool) (params : List Value) (xs ys : List Conjunct)
     (env : Assignment)

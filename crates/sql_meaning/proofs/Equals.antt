@@ -3,9 +3,9 @@ use Rattle.std.specs.Cmp.{signed_Decides}
 use Rattle.std.proofs.Common.{Bool, true, false, ◌&&◌, List, [], ◌∷◌, Option, Some, None, ◌≡◌, refl}
 use Rattle.std.proofs.Common.{ap₂, ap, ℤ, int_eq, ℕ, ◌==◌}
 use Rattle.std.proofs.lemmas.Bool.{eq-eqb, eqb-true}
+use Rattle.list_laws.proofs.Bools.{and_left, and_right, both_true}
 use Rattle.sql_meaning.specs.Values.{Value, Null, Int, Dec, Text, Blob}
 use Rattle.sql_meaning.specs.Rows.{Row, Assignment}
-use Rattle.sql_meaning.proofs.Offers.{and_left, and_right, both_true}
 
 -- a test of equality for assignments
 abbrev pub list_eq : {X : Type 0} → (X → X → Bool) → List X → List X → Bool

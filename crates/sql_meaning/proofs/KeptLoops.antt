@@ -7,6 +7,7 @@ use Rattle.list_laws.specs.Nest.{place, Looks, AreSteps}
 use Rattle.list_laws.specs.Tally.{tally, SameTally}
 use Rattle.list_laws.proofs.Lists.{all_always, filter-filter}
 use Rattle.list_laws.proofs.Tallies.{SameTally-filter}
+use Rattle.list_laws.proofs.Bools.{and_left, and_right, both_true, alike}
 use Rattle.sql_meaning.specs.Values.{Value}
 use Rattle.sql_meaning.specs.Rows.{Assignment}
 use Rattle.sql_meaning.specs.Schemas.{Schema, Database}
@@ -21,13 +22,13 @@ use Rattle.sql_meaning.specs.Evaluation.{holds}
 use Rattle.sql_meaning.specs.UsedTerms.{Used, used_holds, Consumes, UsedPlaced}
 use Rattle.sql_meaning.specs.Paths.{walk}
 use Rattle.sql_meaning.proofs.Databases.{IsDatabase}
-use Rattle.sql_meaning.proofs.Offers.{and_left, and_right, both_true, used_looks, walk_used}
+use Rattle.sql_meaning.proofs.Offers.{used_looks, walk_used}
 use Rattle.sql_meaning.proofs.TermsHold.{consumed_holds, used_from}
 use Rattle.sql_meaning.proofs.Terms.{some_is}
 use Rattle.sql_meaning.proofs.Links.{all_at}
 use Rattle.sql_meaning.proofs.Plans.{test_looks, common_looks, test_from, test_at, chosen_weaken}
 use Rattle.sql_meaning.proofs.Plans.{chosen_none, chosen_from, all_of_true, owner_not, none_owned}
-use Rattle.sql_meaning.proofs.Plans.{missing_same, has_all, alike}
+use Rattle.sql_meaning.proofs.Plans.{missing_same, has_all}
 
 -- what a LEFT item consumes of its own conjuncts, it consumes itself
 abbrev pub Ours : Bound → List ℕ → Loop → Type 0

@@ -1,28 +1,26 @@
 -- Passes over the links reach every linked column: as many passes as there are links are enough,
 -- since each pass but the last reaches both ends of one link more.
+use Rattle.std.specs.List.{AllByRecursion, filter}
 use Rattle.std.proofs.Common.{◌≡◌, ◌≢◌, ℕ, zero, suc, ◌+◌, ◌≤◌, Bool, true, false, cond, not, ◌&&◌}
 use Rattle.std.proofs.Common.{◌||◌, ◌==◌, List, [], ◌∷◌, ◌++◌, Some, refl, ap, sym, ◌∙◌, arith}
-use Rattle.std.proofs.Common.{length}
-use Rattle.std.proofs.Common.{slice_get, inl, inr, ◌⊎◌, subst, Option}
-use Rattle.std.specs.List.{AllByRecursion, flat_map, filter}
+use Rattle.std.proofs.Common.{length, slice_get, inl, inr, ◌⊎◌, subst, Option}
 use Rattle.std.proofs.lemmas.Bool.{eqb-true, eq-eqb}
 use Rattle.list_laws.specs.Tally.{tally}
 use Rattle.list_laws.specs.FirstComing.{has}
 use Rattle.list_laws.specs.Order.{sort_by}
-use Rattle.list_laws.proofs.Lists.{all_map}
+use Rattle.list_laws.proofs.Bools.{or_later, or_first, and_left, and_right, both_true}
 use Rattle.list_laws.proofs.Orders.{SameTally-sort_by}
 use Rattle.list_laws.proofs.FirstComings.{has_same}
 use Rattle.sql_meaning.specs.Values.{Affinity, Integer, Real, Numeric, TextAffinity, BlobAffinity}
-use Rattle.sql_meaning.specs.Values.{Collation, Binary, Nocase, Rtrim}
+use Rattle.sql_meaning.specs.Values.{Collation}
 use Rattle.sql_meaning.specs.Expressions.{BExpr, Cmp, IsEqual, ColumnRef, bare_column}
 use Rattle.sql_meaning.specs.Schemas.{Schema}
 use Rattle.sql_meaning.specs.Items.{Item, own_column}
-use Rattle.sql_meaning.specs.Links.{Linked, link, back, chain, Links, LinkOf, affinity_class}
-use Rattle.sql_meaning.specs.Orders.{same_collation}
+use Rattle.sql_meaning.specs.Links.{Linked, link, back, chain, Links, affinity_class}
 use Rattle.sql_meaning.specs.TermLists.{same_ref, class_number, Pair, pair_of, link_pair, has_ref}
-use Rattle.sql_meaning.specs.TermLists.{add_if, extend, reach, link_pairs, linked_to, ref_cmp}
+use Rattle.sql_meaning.specs.TermLists.{add_if, extend, reach, link_pairs, ref_cmp}
 use Rattle.sql_meaning.specs.TermLaws.{ListsHaveTheLinkedColumns}
-use Rattle.sql_meaning.proofs.Offers.{and_left, and_right, both_true}
+use Rattle.sql_meaning.proofs.ServingExact.{collation_itself}
 use Rattle.sql_meaning.proofs.Terms.{some_is}
 use Rattle.sql_meaning.proofs.TermLists.{itself, ref_is, linked_are}
 
@@ -32,13 +30,6 @@ IsClosed seen p = has_ref p.first seen ≡ has_ref p.second seen
 
 abbrev AreClosed : List Pair → List ColumnRef → Type 0
 AreClosed ps seen = AllByRecursion (IsClosed seen) ps
-
-or_later : (a b : Bool) → b ≡ true → (a || b) ≡ true
-or_later true b h = refl
-or_later false b h = h
-
-or_first : (a b : Bool) → a ≡ true → (a || b) ≡ true
-or_first a b h = rw h refl
 
 -- what is reached stays so
 add_case : (x c : ColumnRef) (b : Bool) (seen : List ColumnRef) → has_ref x seen ≡ true
@@ -273,11 +264,6 @@ class_same a b h = class_of a ∙ ap class_number h ∙ sym (class_of b)
     class_of Numeric = refl
     class_of TextAffinity = refl
     class_of BlobAffinity = refl
-
-collation_itself : (c : Collation) → same_collation c c ≡ true
-collation_itself Binary = refl
-collation_itself Nocase = refl
-collation_itself Rtrim = refl
 
 differ : (m n : ℕ) (b : Bool) → (m == n) ≡ b → m ≢ n → not b ≡ true
 differ m n true e h = absurd (h (eqb-true m n e))

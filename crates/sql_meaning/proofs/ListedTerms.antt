@@ -3,7 +3,8 @@ use Rattle.std.specs.List.{AllByRecursion, filter}
 use Rattle.std.proofs.Common.{◌≡◌, true, ◌==◌, refl, ℕ, List, Bool, false, cond, ◌&&◌, [], ◌∷◌}
 use Rattle.std.proofs.Common.{Option, Some, slice_get, None, inl, inr, ap, ◌∙◌, add-zero, map}
 use Rattle.std.proofs.lemmas.Bool.{eq-eqb}
-use Rattle.list_laws.proofs.Lists.{all_flat_map, all_map, all_append}
+use Rattle.list_laws.proofs.Lists.{all_flat_map, all_map, all_append, all_from_at}
+use Rattle.list_laws.proofs.Bools.{and_left, and_right}
 use Rattle.sql_meaning.specs.Values.{Collation}
 use Rattle.sql_meaning.specs.Links.{Linked, Derives, by_key, by_column}
 use Rattle.sql_meaning.specs.TermLists.{linked_to, derived_term, key_term, derived_terms, of_kind}
@@ -26,22 +27,18 @@ use Rattle.sql_meaning.specs.UsedTerms.{IsDirect, IsTerm, AllOf}
 use Rattle.sql_meaning.specs.Conjuncts.{may_derive}
 use Rattle.sql_meaning.specs.Offers.{IsOffer}
 use Rattle.sql_meaning.specs.OrderState.{columns_at}
-use Rattle.sql_meaning.proofs.Offers.{and_left, and_right}
+use Rattle.sql_meaning.proofs.OneBlock.{empty_is}
 use Rattle.sql_meaning.proofs.TiedPositions.{site_is}
 use Rattle.sql_meaning.proofs.Serving.{key_is, equality_serves, direct_are}
 use Rattle.sql_meaning.proofs.Choices.{AreColumnTerms}
 use Rattle.sql_meaning.proofs.OfferedPaths.{seek_plain, plain_offer, rowid_plain}
-use Rattle.sql_meaning.proofs.TermLists.{from_at, linked_are}
+use Rattle.sql_meaning.proofs.TermLists.{linked_are}
 
 -- a derived term, as the lists of a column want it
 abbrev pub IsDerived : Schema → List Item → List BExpr → ℕ → ColumnRef → Term → Type 0
 IsDerived schema items es item c t =
     (t.column ≡ c.site) × (part_of t.kind ≡ Some (part_or t.kind)) × (t.conjunct ≡ None)
     × Derives schema items es item t
-
-empty_is : (ns : List ℕ) → is_empty ns ≡ true → ns ≡ []
-empty_is [] h = refl
-empty_is (n ∷ ns) h = absurd (cc)
 
 comparison_is_serves : (item : ℕ) (site : Site) (collation : Collation) (kind : TermKind)
     (e : BExpr)
@@ -106,7 +103,7 @@ pub derived_are : (schema : Schema) (items : List Item) (es : List BExpr) (item 
 derived_are schema items es item c is =
     all_append _ _ _
     (all_flat_map _ _ es
-    (from_at _ es
+    (all_from_at _ es
     (λ k e at. all_flat_map _ _ (linked_to schema items es c)
     (all_map _ _ _ (λ d l. key_terms schema items es item c d k e is l at _ refl)
     (linked_are schema items es c)))))

@@ -6,6 +6,7 @@ use Rattle.std.proofs.Common.{◌≢◌}
 use Rattle.std.proofs.lemmas.Bool.{eqb-true, eq-eqb}
 use Rattle.list_laws.specs.Nest.{kept}
 use Rattle.list_laws.proofs.Lists.{all_map}
+use Rattle.list_laws.proofs.Bools.{and_left, both_true, and_right, or_cases}
 use Rattle.sql_meaning.specs.Values.{Value}
 use Rattle.sql_meaning.specs.Rows.{Assignment}
 use Rattle.sql_meaning.specs.Schemas.{Schema, Database}
@@ -17,10 +18,8 @@ use Rattle.sql_meaning.specs.Offers.{IsOffer, AreOffers, loop_items, FitsOffers}
 use Rattle.sql_meaning.specs.Conjuncts.{may_serve, level_test, common_first, first_by}
 use Rattle.sql_meaning.specs.Evaluation.{holds}
 use Rattle.sql_meaning.specs.Expressions.{names}
-use Rattle.sql_meaning.proofs.Offers.{and_left, both_true, and_right}
 use Rattle.sql_meaning.proofs.TermsHold.{used_from, consumed_holds}
-use Rattle.sql_meaning.proofs.Plans.{chosen_weaken, test_from, has_all, or_cases, test_at}
-use Rattle.sql_meaning.proofs.Plans.{chosen_from}
+use Rattle.sql_meaning.proofs.Plans.{chosen_weaken, test_from, has_all, test_at, chosen_from}
 use Rattle.sql_meaning.proofs.KeptLoops.{uses, same_holds}
 use Rattle.sql_meaning.proofs.Terms.{some_is}
 use Rattle.sql_meaning.proofs.Links.{all_at}

@@ -7,6 +7,7 @@ use Rattle.std.proofs.lemmas.Bool.{eqb-true}
 use Rattle.std.proofs.lemmas.List.Sorted.{IsPermutation-reverse}
 use Rattle.list_laws.specs.Nest.{Env, Agree, Looks, place}
 use Rattle.list_laws.specs.Tally.{SameTally, tally}
+use Rattle.list_laws.proofs.Bools.{and_left, and_right}
 use Rattle.list_laws.proofs.Lists.{all_map}
 use Rattle.list_laws.proofs.Nests.{place_other}
 use Rattle.list_laws.proofs.Tallies.{SameTally-refl, SameTally-sym, SameTally-map}
@@ -29,17 +30,6 @@ use Rattle.sql_meaning.specs.Plans.{directed_walk}
 use Rattle.sql_meaning.proofs.Evaluation.{ev_same}
 use Rattle.sql_meaning.proofs.Terms.{carries_is}
 use Rattle.sql_meaning.proofs.Paths.{walk_same}
-
-pub and_left : (a b : Bool) → (a && b) ≡ true → a ≡ true
-and_left true b h = refl
-and_left false b h = h
-
-pub and_right : (a b : Bool) → (a && b) ≡ true → b ≡ true
-and_right true b h = h
-and_right false b h = absurd (cc)
-
-pub both_true : (a b : Bool) → a ≡ true → b ≡ true → (a && b) ≡ true
-both_true a b h k = rw h k
 
 -- the rows of a placed item
 agree_step : {X : Type 0} (i m : ℕ) (ms : List ℕ) (env a : Env X) → Agree (m ∷ ms) env a

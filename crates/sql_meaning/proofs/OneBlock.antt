@@ -1,9 +1,10 @@
 -- What the loops of one block find, and what they leave out.
 use Rattle.std.specs.List.{AllByRecursion, filter, flat_map}
 use Rattle.std.proofs.Common.{◌≡◌, ℕ, false, List, ◌∙◌, [], true, Some, sym, subst, slice_get, ◌∷◌}
-use Rattle.std.proofs.Common.{Bool, suc, not, ◌&&◌, ◌||◌, refl, ◌++◌, ◌≢◌, ap, zero-add, cond}
+use Rattle.std.proofs.Common.{Bool, suc, not, ◌&&◌, ◌||◌, refl, ◌++◌, ◌≢◌, ap, zero-add}
 use Rattle.list_laws.specs.Nest.{kept, nested, product, Distinct, Inside, Apart, Rearranges}
 use Rattle.list_laws.specs.Nest.{IsPartOf}
+use Rattle.list_laws.proofs.Bools.{not_true, cond_same, and_left, and_right, or_cases}
 use Rattle.list_laws.proofs.Nests.{block_law}
 use Rattle.sql_meaning.specs.Values.{Value}
 use Rattle.sql_meaning.specs.Rows.{Assignment}
@@ -18,11 +19,10 @@ use Rattle.sql_meaning.specs.Conjuncts.{first_at, level_test}
 use Rattle.sql_meaning.specs.Offers.{AreOffers, loop_items}
 use Rattle.sql_meaning.specs.PlanLaws.{first_in, block_holds}
 use Rattle.sql_meaning.proofs.Databases.{IsDatabase}
-use Rattle.sql_meaning.proofs.Offers.{and_left, and_right}
 use Rattle.sql_meaning.proofs.Means.{Covered, has_append, settled_used, settled_test, first_common}
 use Rattle.sql_meaning.proofs.Means.{empty_first, sound}
 use Rattle.sql_meaning.proofs.PlanRows.{free_choices}
-use Rattle.sql_meaning.proofs.Plans.{or_cases, test_at, chosen_from, steps_items}
+use Rattle.sql_meaning.proofs.Plans.{test_at, chosen_from, steps_items}
 use Rattle.sql_meaning.proofs.KeptLoops.{uses, ours_free, are_steps}
 
 fails_case : (p : Conjunct → Bool) (params : List Value) (c : Conjunct) (cs : List Conjunct)
@@ -82,11 +82,7 @@ ConsumesOwn bound consumed left block loops =
     → first_in left block (names c.expr) ≡ true → has_number number consumed ≡ true
     → has_number number (consumed_by loops) ≡ true
 
-not_true : (b : Bool) → not b ≡ true → b ≡ false
-not_true true h = absurd (cc)
-not_true false h = refl
-
-empty_is : (ns : List ℕ) → is_empty ns ≡ true → ns ≡ []
+pub empty_is : (ns : List ℕ) → is_empty ns ≡ true → ns ≡ []
 empty_is [] h = refl
 empty_is (n ∷ ns) h = absurd (cc)
 
@@ -125,10 +121,6 @@ block_case schema database bound params consumed left (l ∷ ls) used a number c
     (empty_first l.item (names c.expr) (and_left _ (is_empty left) t))))
     (ap (λ m. has_number m consumed) (zero-add number) ∙ e))
     first
-
-pub cond_same : (b : Bool) → cond b true false ≡ b
-cond_same true = refl
-cond_same false = refl
 
 -- the law of a block, for any list of consumed conjuncts of which the block consumes its own
 pub block_of_loops : (schema : Schema) (database : Database) (bound : Bound)

@@ -11,6 +11,7 @@ use Rattle.list_laws.specs.Nest.{place}
 use Rattle.list_laws.specs.Order.{Ascends, RisesStrictly}
 use Rattle.list_laws.proofs.Lists.{all_map, all_both}
 use Rattle.list_laws.proofs.Orders.{Ascends-filter}
+use Rattle.list_laws.proofs.Bools.{and_left, and_right}
 use Rattle.sql_meaning.specs.Rows.{Site, Assignment, Row, site_value}
 use Rattle.sql_meaning.specs.Expressions.{bare_column, ColumnRef}
 use Rattle.sql_meaning.specs.Statements.{SortKey, Bound, item_rows, is_left, owned_by, item_alias}
@@ -32,7 +33,7 @@ use Rattle.sql_meaning.proofs.TiedPositions.{directed_tie, collation_is, site_is
 use Rattle.sql_meaning.proofs.TiedPositions.{path_positions_tied}
 use Rattle.sql_meaning.proofs.Rises.{pos_cmp, walk_carried, all_reverse, by_positions, walk_rises}
 use Rattle.sql_meaning.proofs.Rises.{rises_filter}
-use Rattle.sql_meaning.proofs.Offers.{and_left, and_right, cell_placed}
+use Rattle.sql_meaning.proofs.Offers.{cell_placed}
 use Rattle.sql_meaning.proofs.Passes.{AreTied, IsPassed, IsFront, held_front, IsDirection}
 use Rattle.sql_meaning.proofs.Passes.{leaves_keys, pass_is}
 use Rattle.sql_meaning.proofs.Paths.{all_walk}

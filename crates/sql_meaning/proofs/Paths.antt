@@ -164,7 +164,7 @@ mutual
 pub same_rowid_equiv : IsEquivalence same_rowid
 same_rowid_equiv = eq_by_cmp_equiv (on_total (λ row. row.rowid) int_cmp_total)
 
-rising_apart : (rows : List Row) → RisingRows rows → AreApart same_rowid rows
+pub rising_apart : (rows : List Row) → RisingRows rows → AreApart same_rowid rows
 rising_apart [] h = tt
 rising_apart (row ∷ rows) h = (all_map _ _ rows (λ later e. ap is_eq e) h.0, rising_apart rows h.1)
 

@@ -8,7 +8,8 @@ use Rattle.std.proofs.lemmas.List.{length-replicate}
 use Rattle.std.proofs.lemmas.List.Elements.{filter_agree}
 use Rattle.list_laws.specs.Nest.{Distinct, Inside, product, step_items, Rearranges}
 use Rattle.list_laws.specs.Tally.{tally, SameTally}
-use Rattle.list_laws.proofs.Lists.{all_map}
+use Rattle.list_laws.proofs.Bools.{cond_same, or_cases}
+use Rattle.list_laws.proofs.Lists.{all_from_at, all_map}
 use Rattle.list_laws.proofs.Nests.{join_law, distinct_reorders}
 use Rattle.sql_meaning.specs.Values.{Value}
 use Rattle.sql_meaning.specs.Rows.{Row}
@@ -22,7 +23,7 @@ use Rattle.sql_meaning.specs.Offers.{AreOffers, loop_items, FitsOffers}
 use Rattle.sql_meaning.specs.Conjuncts.{may_serve}
 use Rattle.sql_meaning.proofs.Databases.{IsDatabase}
 use Rattle.sql_meaning.proofs.KeptLoops.{uses, Ours, are_steps}
-use Rattle.sql_meaning.proofs.Plans.{has_all, or_cases, nested_used, steps_items}
+use Rattle.sql_meaning.proofs.Plans.{has_all, nested_used, steps_items}
 use Rattle.sql_meaning.proofs.Terms.{some_is}
 use Rattle.sql_meaning.proofs.Means.{sound, has_append, consumed_served, settles}
 
@@ -57,11 +58,6 @@ offer_served schema bound placed (m ∷ ms) used zero l number c o e h is =
     (ap (λ (z : Loop). has_number number z.consumed) same ∙ h)) is)
 offer_served schema bound placed (m ∷ ms) used (suc at) l number c o e h is =
     offer_served schema bound (m.item ∷ placed) ms used at l number c o.1 e h is
-
-all_from_at : {X : Type 0} (P : X → Type 0) (xs : List X)
-    → ((k : ℕ) (x : X) → slice_get xs k ≡ Some x → P x) → AllByRecursion P xs
-all_from_at P [] f = tt
-all_from_at P (x ∷ xs) f = (f 0 x refl, all_from_at P xs (λ k y e. f (suc k) y e))
 
 not_there : (ls : List Loop) (item k : ℕ) (m : Loop)
     → AllByRecursion (λ j. j ≢ item) (loop_items ls) → slice_get ls k ≡ Some m → m.item ≡ item → ⊥
@@ -141,10 +137,6 @@ pub free_choices : (database : Database) (bound : Bound) (params : List Value) (
     → cond b ys xs ≡ cond b zs xs
 free_choices database bound params i true h xs ys zs = absurd (cc)
 free_choices database bound params i false h xs ys zs = refl
-
-cond_same : (b : Bool) → cond b true false ≡ b
-cond_same true = refl
-cond_same false = refl
 
 -- the loops of a plan that are offers find the statement's rows, each as often
 pub plan_rows : (schema : Schema) (plan : Plan) → FitsOffers schema plan

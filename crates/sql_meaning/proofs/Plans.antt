@@ -6,6 +6,7 @@ use Rattle.std.proofs.Common.{◌==◌}
 use Rattle.std.proofs.lemmas.Bool.{eqb-true}
 use Rattle.list_laws.specs.Nest.{place, nested, step_items, Agree, Looks}
 use Rattle.list_laws.specs.Tally.{tally, SameTally}
+use Rattle.list_laws.proofs.Bools.{or_cases, and_left, and_right, both_true}
 use Rattle.list_laws.proofs.Lists.{flat_map_same, all_always, all_map}
 use Rattle.list_laws.proofs.Tallies.{SameTally-refl}
 use Rattle.sql_meaning.specs.Values.{Value}
@@ -19,7 +20,7 @@ use Rattle.sql_meaning.specs.Conjuncts.{level_test, common_first, first_at, firs
 use Rattle.sql_meaning.specs.Offers.{loop_items}
 use Rattle.sql_meaning.specs.Expressions.{names}
 use Rattle.sql_meaning.specs.Evaluation.{is_true, holds}
-use Rattle.sql_meaning.proofs.Offers.{and_left, and_right, agree_in, all_in_all, both_true}
+use Rattle.sql_meaning.proofs.Offers.{agree_in, all_in_all}
 use Rattle.sql_meaning.proofs.TermsHold.{unless, rest_of}
 use Rattle.sql_meaning.proofs.Evaluation.{ev_same}
 use Rattle.sql_meaning.proofs.Terms.{some_is}
@@ -57,10 +58,6 @@ due_case false h k f = refl
 empty_named : (ns : List ℕ) → is_empty ns ≡ true → (env a : Assignment) → Agree ns env a
 empty_named [] h env a = tt
 empty_named (n ∷ ns) h env a = absurd (cc)
-
-pub or_cases : {G : Type 0} (a b : Bool) → (a ≡ true → G) → (b ≡ true → G) → (a || b) ≡ true → G
-or_cases true b f g e = f refl
-or_cases false b f g e = g e
 
 common_named : (placed : List ℕ) (item : ℕ) (ns : List ℕ) (env a : Assignment)
     → common_first placed item ns ≡ true → Agree (item ∷ placed) env a → Agree ns env a
@@ -226,8 +223,3 @@ has_all P [] n h e = absurd (cc)
 has_all P (m ∷ ms) n h e =
     or_cases (n == m) (has_number n ms) (λ t. subst P (sym (eqb-true n m t)) h.0)
     (λ t. has_all P ms n h.1 t) e
-
-pub alike : (a b : Bool) → (a ≡ true → b ≡ true) → (b ≡ true → a ≡ true) → a ≡ b
-alike true b f g = sym (f refl)
-alike false true f g = g refl
-alike false false f g = refl

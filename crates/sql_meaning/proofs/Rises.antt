@@ -1,12 +1,12 @@
 -- Along a walk its positions rise.
 use Rattle.std.specs.declared.cmp.Ordering.{Ordering}
-use Rattle.std.specs.Ordering.{ordering_then, int_cmp, is_eq, ordering_reverse, is_le}
+use Rattle.std.specs.Ordering.{ordering_then, int_cmp, is_eq, is_le}
 use Rattle.std.specs.declared.cmp.Ordering.TheVariants.{Less, Equal as Ties, Greater}
 use Rattle.std.specs.List.{AllByRecursion, filter, slice_get}
 use Rattle.std.specs.Cmp.{IsEquivalence}
 use Rattle.std.proofs.Common.{Bool, cond, not, List, ◌≡◌, refl, ℤ, pos, ◌*ℤ◌, ◌∙◌, true, false, ap}
 use Rattle.std.proofs.Common.{ℕ, Option, Some, None, sym, [], ◌∷◌, ap₂, map, subst, ◌++◌, reverse}
-use Rattle.std.proofs.lemmas.Cmp.{int_cmp_total, on_total, eq_by_cmp_equiv}
+use Rattle.std.proofs.lemmas.Cmp.{int_cmp_total}
 use Rattle.std.proofs.lemmas.Bool.{eqb-true}
 use Rattle.std.proofs.lemmas.Grind.{reverse_onto}
 use Rattle.list_laws.specs.Order.{insert_by, sort_by, Ascends, RisesStrictly}
@@ -25,8 +25,10 @@ use Rattle.sql_meaning.specs.Paths.{EqPart, same_rowid, IndexScan, Path, TableSc
 use Rattle.sql_meaning.specs.Paths.{RowidRange, IndexSeek, Union, path_list, is_union, walk}
 use Rattle.sql_meaning.specs.Paths.{carried}
 use Rattle.sql_meaning.specs.Plans.{directed_walk}
+use Rattle.sql_meaning.proofs.Paths.{same_rowid_equiv, rising_apart, rowid_less, all_sort}
+use Rattle.sql_meaning.proofs.Paths.{entry_cmp_total, all_list, walk_is}
+use Rattle.sql_meaning.proofs.Seeks.{is_eq_reverse}
 use Rattle.sql_meaning.proofs.Scaled.{scaled_cmp}
-use Rattle.sql_meaning.proofs.Paths.{rowid_less, all_sort, entry_cmp_total, all_list, walk_is}
 
 -- two rows by a position, in the walk's direction
 abbrev pub pos_cmp : Bool → Position → Row → Row → Ordering
@@ -46,15 +48,11 @@ then_none Greater = refl
 int_order : (collation : Collation) (m n : ℤ) → value_cmp collation (Int m) (Int n) ≡ int_cmp m n
 int_order collation m n = then_none (int_cmp (m *ℤ pos 10000) (n *ℤ pos 10000)) ∙ scaled_cmp m n
 
-eq_reverse : (o : Ordering) → is_eq (ordering_reverse o) ≡ is_eq o
-eq_reverse Less = refl
-eq_reverse Ties = refl
-eq_reverse Greater = refl
-
 ints_apart : (b : Bool) (collation : Collation) (m n : ℤ) → is_eq (int_cmp m n) ≡ false
     → is_eq (directed b (value_cmp collation) (Int m) (Int n)) ≡ false
 ints_apart true collation m n h =
-    ap is_eq (int_order collation n m ∙ int_cmp_total.antisymm n m) ∙ eq_reverse (int_cmp m n) ∙ h
+    ap is_eq (int_order collation n m ∙ int_cmp_total.antisymm n m) ∙ is_eq_reverse (int_cmp m n)
+    ∙ h
 ints_apart false collation m n h = ap is_eq (int_order collation m n) ∙ h
 
 le_apart : (o rest : Ordering) → is_eq o ≡ false → is_le (ordering_then o rest) ≡ true
@@ -184,13 +182,6 @@ pub rises_filter : {X : Type 0} (R : X → X → Ordering) (p : X → Bool) (xs 
 rises_filter R p [] h = tt
 rises_filter R p (x ∷ xs) h =
     rises_cond R (p x) x (filter p xs) (all_filter _ p xs h.0) (rises_filter R p xs h.1)
-
-same_rowid_equiv : IsEquivalence same_rowid
-same_rowid_equiv = eq_by_cmp_equiv (on_total (λ row. row.rowid) int_cmp_total)
-
-rising_apart : (rows : List Row) → RisingRows rows → AreApart same_rowid rows
-rising_apart [] h = tt
-rising_apart (row ∷ rows) h = (all_map _ _ rows (λ later e. ap is_eq e) h.0, rising_apart rows h.1)
 
 pub spots_are : (o : Option Index) → index_sort_columns o ≡ map spot_of (columns_at o)
 spots_are None = refl

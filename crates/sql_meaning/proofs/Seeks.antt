@@ -10,6 +10,7 @@ use Rattle.std.proofs.lemmas.Cmp.{back_total}
 use Rattle.std.proofs.lemmas.List.Elements.{filter_agree}
 use Rattle.list_laws.specs.Order.{Ascends, sort_by}
 use Rattle.list_laws.specs.FirstComing.{ties_any}
+use Rattle.list_laws.proofs.Bools.{or_false_right, or_false_left}
 use Rattle.list_laws.proofs.Orders.{not_below_up, above_up, Rises-from_order, stretch_at}
 use Rattle.list_laws.proofs.Orders.{Ascends-at, Ascends-first, Ascends-sort_by}
 use Rattle.list_laws.proofs.Stretches.{stretch_is}
@@ -83,7 +84,7 @@ pub filter_false : (p : Row → Bool) (rows : List Row) → ((row : Row) → p r
 filter_false p [] h = refl
 filter_false p (row ∷ rows) h = rw (h row) (filter_false p rows h)
 
-is_eq_reverse : (o : Ordering) → is_eq (ordering_reverse o) ≡ is_eq o
+pub is_eq_reverse : (o : Ordering) → is_eq (ordering_reverse o) ≡ is_eq o
 is_eq_reverse Less = refl
 is_eq_reverse Ties = refl
 is_eq_reverse Greater = refl
@@ -234,14 +235,6 @@ cond_walk : (b : Bool) (p : Row → Bool) (rows ws : List Row)
 cond_walk true p rows ws f g = filter_false p rows (f refl)
 cond_walk false p rows ws f g = g refl
 
-or_left : (a b : Bool) → (a || b) ≡ false → a ≡ false
-or_left true b h = h
-or_left false b h = refl
-
-or_right : (a b : Bool) → (a || b) ≡ false → b ≡ false
-or_right true b h = absurd (cc)
-or_right false b h = h
-
 or_null : (a b x y : Bool) → (a ≡ true → x ≡ false) → (b ≡ true → y ≡ false) → (a || b) ≡ true
     → (x && y) ≡ false
 or_null true b x y f g h = rw (f refl) refl
@@ -279,10 +272,10 @@ seek_is_bounds s (Some l) (Some e) rows h =
     ∙ filter_agree _ _ (λ row. both_case (is_null (site_value s.site row)) _ _ _ _
     (low_case (is_null (site_value s.site row)) (is_null l.key) l.inclusive
     (value_cmp s.collation (site_value s.site row) l.key)
-    (or_left (is_null l.key) (is_null e.key) n))
+    (or_false_left (is_null l.key) (is_null e.key) n))
     (high_case (is_null (site_value s.site row)) (is_null e.key) e.inclusive
     (value_cmp s.collation (site_value s.site row) e.key)
-    (or_right (is_null l.key) (is_null e.key) n))) rows)
+    (or_false_right (is_null l.key) (is_null e.key) n))) rows)
 
 -- an index site's value at a key
 abbrev pub at_key : SortColumn → Value → Row → Bool

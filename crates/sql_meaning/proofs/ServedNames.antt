@@ -1,8 +1,9 @@
 -- Which items a conjunct names that a path consumes: its own item, and items that are placed.
 use Rattle.std.specs.List.{AllByRecursion}
-use Rattle.std.proofs.Common.{◌≡◌, ◌≢◌, ℕ, Bool, true, false, ◌&&◌, ◌||◌, ◌==◌, List, [], ◌∷◌, ◌++◌}
+use Rattle.std.proofs.Common.{◌≡◌, ◌≢◌, ℕ, Bool, true, false, ◌&&◌, ◌==◌, List, [], ◌∷◌, ◌++◌}
 use Rattle.std.proofs.Common.{Option, Some, None, refl, ap, sym, ◌∙◌, subst, slice_get, inl, inr}
 use Rattle.std.proofs.lemmas.Bool.{eq-eqb}
+use Rattle.list_laws.proofs.Bools.{or_later, or_first, both_true}
 use Rattle.list_laws.proofs.Lists.{all_append}
 use Rattle.sql_meaning.specs.Values.{Collation, Affinity}
 use Rattle.sql_meaning.specs.Rows.{Site}
@@ -20,7 +21,6 @@ use Rattle.sql_meaning.specs.UsedTerms.{Used, AllOf, AnyOf, Consumes, KeysPlaced
 use Rattle.sql_meaning.specs.Offers.{IsOffer}
 use Rattle.sql_meaning.proofs.Terms.{some_is}
 use Rattle.sql_meaning.proofs.Links.{all_at}
-use Rattle.sql_meaning.proofs.Offers.{both_true}
 use Rattle.sql_meaning.proofs.Plans.{has_all}
 use Rattle.sql_meaning.proofs.Means.{has_append}
 
@@ -45,13 +45,6 @@ pub record NamesItem (item : ℕ) (placed named : List ℕ) : Type 0 where
 
 itself : (item : ℕ) (ns : List ℕ) → has_number item (item ∷ ns) ≡ true
 itself item ns = rw (eq-eqb item item refl) refl
-
-or_later : (a b : Bool) → b ≡ true → (a || b) ≡ true
-or_later true b h = refl
-or_later false b h = h
-
-or_first : (a b : Bool) → a ≡ true → (a || b) ≡ true
-or_first a b h = rw h refl
 
 pub all_inside : (ns ms : List ℕ) → AllByRecursion (λ i. has_number i ms ≡ true) ns
     → all_in ns ms ≡ true

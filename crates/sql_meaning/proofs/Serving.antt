@@ -4,6 +4,7 @@ use Rattle.std.proofs.Common.{◌≡◌, true, Option, Some, None, refl, Bool, f
 use Rattle.std.proofs.Common.{◌==◌, List, ◌∷◌, sym, [], cond, ◌&&◌, ap, ◌∙◌, ◌⊎◌, inl, inr, subst}
 use Rattle.std.proofs.Common.{slice_get, suc, ◌+◌, arith}
 use Rattle.std.proofs.lemmas.Bool.{eq-eqb, eqb-true}
+use Rattle.list_laws.proofs.Bools.{not_true, and_left, and_right}
 use Rattle.list_laws.proofs.Lists.{all_append}
 use Rattle.sql_meaning.specs.Values.{Affinity, Collation}
 use Rattle.sql_meaning.specs.Serving.{no_conversion, Served, side_served, served_or}
@@ -23,16 +24,11 @@ use Rattle.sql_meaning.specs.Orders.{same_collation, same_site}
 use Rattle.sql_meaning.specs.Conjuncts.{may_serve}
 use Rattle.sql_meaning.specs.UsedTerms.{IsDirect}
 use Rattle.sql_meaning.proofs.Terms.{some_is}
-use Rattle.sql_meaning.proofs.Offers.{and_left, and_right}
 use Rattle.sql_meaning.proofs.TiedPositions.{collation_is, site_is}
 
 no_conversion_is : (converted : Option Affinity) → no_conversion converted ≡ true → converted ≡ None
 no_conversion_is None h = refl
 no_conversion_is (Some aff) h = absurd (cc)
-
-not_false : (b : Bool) → not b ≡ true → b ≡ false
-not_false true h = absurd (cc)
-not_false false h = refl
 
 -- no item of the list is this one
 foreign_case : (item n : ℕ) (ns : List ℕ)
@@ -94,7 +90,7 @@ side_serves item op own other own_conversion other_conversion collation s i = re
       no_conversion_is own_conversion (and_left _ (not (has_number item (names other))) i.fine);
   foreign =
       foreign_all item (names other)
-      (not_false _ (and_right (no_conversion own_conversion) _ i.fine));
+      (not_true _ (and_right (no_conversion own_conversion) _ i.fine));
   says = i.says;
 }
 
@@ -275,7 +271,7 @@ serving_is own item (OneOf false left entries entry_conversion collation) s h =
       i.same,
       record {
         is_column = i.column;
-        foreign = foreign_all item (all_names entries) (not_false _ i.fine);
+        foreign = foreign_all item (all_names entries) (not_true _ i.fine);
         says = sym (some_is _ s.kind i.says);
       },
     )

@@ -1,23 +1,22 @@
 -- The function finds the term wherever a conjunct serves a column of the item.
-use Rattle.std.proofs.Common.{◌≡◌, ◌≢◌, ℕ, Bool, true, false, cond, not, ◌&&◌, ◌||◌, ◌==◌, List, []}
-use Rattle.std.proofs.Common.{◌∷◌, Option, Some, None, refl, ap, sym, ◌∙◌, inl, inr, ◌⊎◌, subst}
 use Rattle.std.specs.List.{AllByRecursion}
+use Rattle.std.proofs.Common.{◌≡◌, ◌≢◌, ℕ, Bool, true, false, cond, not, ◌&&◌, ◌||◌, ◌==◌, List, []}
+use Rattle.std.proofs.Common.{◌∷◌, Option, Some, None, refl, ap, sym, ◌∙◌, inl, inr, subst}
 use Rattle.std.proofs.lemmas.Bool.{eqb-true, eq-eqb}
+use Rattle.list_laws.proofs.Bools.{both_true}
 use Rattle.sql_meaning.specs.Values.{Collation, Affinity, Binary, Nocase, Rtrim}
 use Rattle.sql_meaning.specs.Rows.{Site, AtRowid, AtColumn}
 use Rattle.sql_meaning.specs.Expressions.{Op, BExpr, BExprs, Nil, More, Cmp, OneOf, IsNull, Any}
-use Rattle.sql_meaning.specs.Expressions.{Lit, Param, Column, Rowid, Plus, Collate, Not, All}
 use Rattle.sql_meaning.specs.Expressions.{names, all_names, ColumnRef, bare_column}
 use Rattle.sql_meaning.specs.Paths.{KeyExpr}
 use Rattle.sql_meaning.specs.Terms.{TermKind, Equals, Within, IsNothing, SideServes, flipped}
-use Rattle.sql_meaning.specs.Terms.{ComparisonServes, AreEqualities, Serves, kind_of, entry_keys}
+use Rattle.sql_meaning.specs.Terms.{ComparisonServes, AreEqualities, Serves, kind_of}
 use Rattle.sql_meaning.specs.Statements.{has_number}
 use Rattle.sql_meaning.specs.Orders.{same_site, same_collation}
 use Rattle.sql_meaning.specs.Serving.{Served, no_conversion, side_served, served_or}
 use Rattle.sql_meaning.specs.Serving.{comparison_served, equal_key, key_under, keys_or, keys_under}
-use Rattle.sql_meaning.specs.Serving.{within, or_served, first_served, null_served, serving}
+use Rattle.sql_meaning.specs.Serving.{within, or_served, first_served, null_served}
 use Rattle.sql_meaning.specs.TermLaws.{FindsTheTerm, ServingIsExact}
-use Rattle.sql_meaning.proofs.Offers.{both_true}
 use Rattle.sql_meaning.proofs.ServedNames.{bare_names}
 use Rattle.sql_meaning.proofs.Serving.{serving_is}
 
@@ -35,7 +34,7 @@ site_itself : (s : Site) → same_site s s ≡ true
 site_itself AtRowid = refl
 site_itself (AtColumn c) = eq-eqb c c refl
 
-collation_itself : (c : Collation) → same_collation c c ≡ true
+pub collation_itself : (c : Collation) → same_collation c c ≡ true
 collation_itself Binary = refl
 collation_itself Nocase = refl
 collation_itself Rtrim = refl
@@ -64,7 +63,8 @@ side_finds : (item : ℕ) (site : Site) (kind : TermKind) (op : Op) (own other :
     ≡ found site collation kind
 side_finds item site kind op own other oc tc collation s =
     column_found item (bare_column own) _ _ site kind collation s.is_column
-    (both_true _ _ (ap no_conversion s.unconverted) (ap not (not_named item (names other) s.foreign)))
+    (both_true _ _ (ap no_conversion s.unconverted)
+    (ap not (not_named item (names other) s.foreign)))
     s.says
 
 -- a side that names nothing of the item serves nothing
@@ -109,11 +109,14 @@ keys_find item site collation Nil [] h = refl
 keys_find item site collation Nil (key ∷ keys) h = absurd h
 keys_find item site collation (More e es) [] h = absurd h
 keys_find item site collation (More e es) (key ∷ keys) h =
-    ap (λ (z : Option Served). keys_or (key_under site collation z) (keys_under item site collation es))
+    ap
+    (λ (z : Option Served). keys_or (key_under site collation z)
+    (keys_under item site collation es))
     (comparison_finds item site collation (Equals key) e h.0)
     ∙ ap (λ b. keys_or (equal_key b (Equals key)) (keys_under item site collation es))
     (both_true _ _ (site_itself site) (collation_itself collation))
-    ∙ ap (λ (z : Option (List KeyExpr)). keys_or (Some key) z) (keys_find item site collation es keys h.1)
+    ∙ ap (λ (z : Option (List KeyExpr)). keys_or (Some key) z)
+    (keys_find item site collation es keys h.1)
 
 or_finds : (item : ℕ) (site : Site) (collation : Collation) (es : BExprs) (keys : List KeyExpr)
     → keys ≢ [] → AreEqualities item site collation es keys

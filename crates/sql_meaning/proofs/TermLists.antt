@@ -4,7 +4,8 @@ use Rattle.std.proofs.Common.{◌≡◌, true, ◌==◌, refl, ap₂, ◌≢◌,
 use Rattle.std.proofs.Common.{◌&&◌, [], ◌∷◌, Option, Some, slice_get, None, suc, ◌⊎◌, inl, inr, sym}
 use Rattle.std.proofs.Common.{subst, ◌||◌, zero, length}
 use Rattle.std.proofs.lemmas.Bool.{eqb-true, eq-eqb}
-use Rattle.list_laws.proofs.Lists.{all_flat_map}
+use Rattle.list_laws.proofs.Lists.{all_from_at, all_flat_map}
+use Rattle.list_laws.proofs.Bools.{and_left, and_right}
 use Rattle.sql_meaning.specs.Values.{Affinity, Integer, Real, Numeric, TextAffinity, BlobAffinity}
 use Rattle.sql_meaning.specs.Values.{Collation}
 use Rattle.sql_meaning.specs.Links.{affinity_class, Linked, link, chain, back}
@@ -18,7 +19,6 @@ use Rattle.sql_meaning.specs.Orders.{same_site, same_collation}
 use Rattle.sql_meaning.specs.Schemas.{Schema}
 use Rattle.sql_meaning.specs.Items.{Item, own_column}
 use Rattle.sql_meaning.specs.Rows.{Site, AtRowid, AtColumn}
-use Rattle.sql_meaning.proofs.Offers.{and_left, and_right}
 use Rattle.sql_meaning.proofs.TiedPositions.{site_is, collation_is}
 use Rattle.sql_meaning.proofs.Paths.{all_sort}
 
@@ -138,16 +138,11 @@ link_pair_is schema items es number (Not e) at = tt
 link_pair_is schema items es number (All xs) at = tt
 link_pair_is schema items es number (Any xs) at = tt
 
-pub from_at : {X : Type 0} (P : X → Type 0) (xs : List X)
-    → ((k : ℕ) (x : X) → slice_get xs k ≡ Some x → P x) → AllByRecursion P xs
-from_at P [] f = tt
-from_at P (x ∷ xs) f = (f 0 x refl, from_at P xs (λ k y e. f (suc k) y e))
-
 pairs_are : (schema : Schema) (items : List Item) (es : List BExpr)
     → AllByRecursion (AreLinked schema items es) (link_pairs schema items es)
 pairs_are schema items es =
     all_flat_map _ (link_pair schema items) es
-    (from_at _ es (λ k e at. link_pair_is schema items es k e at))
+    (all_from_at _ es (λ k e at. link_pair_is schema items es k e at))
 
 -- what is reached is the column itself or linked with it
 abbrev pub Reached : Schema → List Item → List BExpr → ColumnRef → ColumnRef → Type 0

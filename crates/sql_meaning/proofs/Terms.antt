@@ -4,6 +4,7 @@ use Rattle.std.specs.declared.cmp.Ordering.TheVariants.{Less, Equal as Ties, Gre
 use Rattle.std.specs.Ordering.{ordering_reverse}
 use Rattle.std.proofs.Common.{◌≡◌, Some, List, ap, Bool, true, false, Option, None, refl, ◌||◌}
 use Rattle.std.proofs.Common.{cond, ◌∙◌, ℕ, inl, inr, map, [], ◌∷◌, sym, ℤ, ◌&&◌, ◌++◌}
+use Rattle.list_laws.proofs.Bools.{and_none}
 use Rattle.sql_meaning.specs.Values.{Value, Collation, value_cmp, is_null, Affinity, Null, Int, Dec}
 use Rattle.sql_meaning.specs.Values.{Text, Blob}
 use Rattle.sql_meaning.specs.Truth.{truth3}
@@ -299,10 +300,6 @@ part_is env params collation IsNothing p v h =
     ap (λ q. part_holds collation (part_value env params q) v) (sym (some_is _ p h))
 part_is env params collation (Low key i) p v h = absurd (cc)
 part_is env params collation (High key i) p v h = absurd (cc)
-
-and_none : (b : Bool) → (b && true) ≡ b
-and_none true = refl
-and_none false = refl
 
 low_is : (env : Assignment) (params : List Value) (alias : Option ℕ) (s : SortColumn)
     (low : Option Edge) (ts : List Term) (row : Row)

@@ -3,6 +3,7 @@ use Rattle.std.specs.List.{AllByRecursion, filter, slice_get}
 use Rattle.std.proofs.Common.{◌≡◌, Bool, true, false, ◌&&◌, refl, ℕ, ◌||◌, List, ◌∷◌, None, [], ap}
 use Rattle.std.proofs.Common.{ap₂, cond, ◌∙◌, Option, Some, sym, ◌++◌, not, suc, zero, subst, inl}
 use Rattle.std.proofs.Common.{inr}
+use Rattle.list_laws.proofs.Bools.{and_none, and_left, and_right, both_true}
 use Rattle.list_laws.proofs.Lists.{all_append}
 use Rattle.sql_meaning.specs.Statements.{Conjunct, chosen_hold, exprs_of, Bound, FitsStatement}
 use Rattle.sql_meaning.specs.Values.{Value}
@@ -20,7 +21,6 @@ use Rattle.sql_meaning.specs.Items.{Item, FitsExpr, FitsExprs}
 use Rattle.sql_meaning.specs.Conjuncts.{may_serve, may_derive}
 use Rattle.sql_meaning.proofs.Terms.{truth_again, some_is, serves_is, or3_true}
 use Rattle.sql_meaning.proofs.Links.{derived_holds, all_at}
-use Rattle.sql_meaning.proofs.Offers.{and_left, and_right, both_true}
 
 -- a condition holds exactly where each member of its flattened AND list holds
 abbrev pub all_hold_of : Assignment → List Value → List BExpr → Bool
@@ -45,25 +45,21 @@ all-append env params (x ∷ xs) ys =
     and_assoc true b c = refl
     and_assoc false b c = refl
 
-one_only : (b : Bool) → (b && true) ≡ b
-one_only true = refl
-one_only false = refl
-
 mutual
   pub flat_holds : (env : Assignment) (params : List Value) (e : BExpr)
       → all_hold_of env params (flat e) ≡ holds env params e
   flat_holds env params (All es) = flat_all_hold env params es ∙ sym (ap is_true (truth_again _))
-  flat_holds env params (Lit v) = one_only _
-  flat_holds env params (Param n) = one_only _
-  flat_holds env params (Column i n) = one_only _
-  flat_holds env params (Rowid i) = one_only _
-  flat_holds env params (Plus e) = one_only _
-  flat_holds env params (Collate e collation) = one_only _
-  flat_holds env params (Cmp op l r lc rc collation) = one_only _
-  flat_holds env params (OneOf n l es ec collation) = one_only _
-  flat_holds env params (IsNull n e) = one_only _
-  flat_holds env params (Not e) = one_only _
-  flat_holds env params (Any es) = one_only _
+  flat_holds env params (Lit v) = and_none _
+  flat_holds env params (Param n) = and_none _
+  flat_holds env params (Column i n) = and_none _
+  flat_holds env params (Rowid i) = and_none _
+  flat_holds env params (Plus e) = and_none _
+  flat_holds env params (Collate e collation) = and_none _
+  flat_holds env params (Cmp op l r lc rc collation) = and_none _
+  flat_holds env params (OneOf n l es ec collation) = and_none _
+  flat_holds env params (IsNull n e) = and_none _
+  flat_holds env params (Not e) = and_none _
+  flat_holds env params (Any es) = and_none _
 
   flat_all_hold : (env : Assignment) (params : List Value) (es : BExprs)
       → all_hold_of env params (flat_all es) ≡ is_true (all3 (evs env params es))

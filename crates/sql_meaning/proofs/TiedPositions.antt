@@ -2,9 +2,10 @@
 use Rattle.std.specs.declared.cmp.Ordering.TheVariants.{Equal as Ties}
 use Rattle.std.specs.List.{AllByRecursion, slice_get}
 use Rattle.std.proofs.Common.{Bool, cond, not, List, ◌≡◌, refl, ◌∙◌, true, false, ap, ℕ, Option}
-use Rattle.std.proofs.Common.{sym, [], ◌∷◌, ap₂, map, subst, ◌||◌}
+use Rattle.std.proofs.Common.{sym, [], ◌∷◌, ap₂, map, subst}
 use Rattle.std.proofs.lemmas.Cmp.{tied_back}
 use Rattle.std.proofs.lemmas.Bool.{eqb-true}
+use Rattle.list_laws.proofs.Bools.{or_cases, and_left, and_right}
 use Rattle.sql_meaning.specs.Values.{value_cmp, Int, Collation, Binary, Value, Null, Dec, Text}
 use Rattle.sql_meaning.specs.Values.{Blob, is_null, Nocase, Rtrim}
 use Rattle.sql_meaning.specs.Rows.{Row, site_value, AtColumn, AtRowid, Assignment, Site}
@@ -18,7 +19,6 @@ use Rattle.sql_meaning.specs.Paths.{IndexSeek, Union, carried, OneKey, ManyKeys,
 use Rattle.sql_meaning.specs.Paths.{part_value, end_value}
 use Rattle.sql_meaning.specs.Walks.{part_holds, End, parts_hold}
 use Rattle.sql_meaning.proofs.Links.{equal_back, equal_along, parts_of}
-use Rattle.sql_meaning.proofs.Offers.{and_left, and_right}
 use Rattle.sql_meaning.proofs.Order.{value_cmp_total}
 use Rattle.sql_meaning.proofs.Rises.{pos_cmp, spot_of, column_site_is, spots_are}
 
@@ -80,10 +80,6 @@ site_is (AtColumn c) (AtColumn d) h = ap AtColumn (eqb-true c d h)
 site_is AtRowid (AtColumn d) h = absurd (cc)
 site_is (AtColumn c) AtRowid h = absurd (cc)
 
-either : {G : Type 0} (a b : Bool) → (a ≡ true → G) → (b ≡ true → G) → (a || b) ≡ true → G
-either true b f g e = f refl
-either false b f g e = g e
-
 pub part_tied : (params : List Value) (env : Assignment) (alias : Option ℕ) (cs : List IndexColumn)
     (eqs : List EqPart) (low high : Option End) (x y : Row) (site : Site) (collation : Collation)
     → AliasHolds alias x → AliasHolds alias y
@@ -94,7 +90,7 @@ pub part_tied : (params : List Value) (env : Assignment) (alias : Option ℕ) (c
 part_tied params env alias [] eqs low high x y site collation hx hy h k held = absurd (cc)
 part_tied params env alias (c ∷ cs) [] low high x y site collation hx hy h k held = absurd (cc)
 part_tied params env alias (c ∷ cs) (p ∷ ps) low high x y site collation hx hy h k held =
-    either _ _
+    or_cases _ _
     (λ e. let same_s : column_site alias c.column ≡ site =
     site_is _ site
     (and_left _ (same_collation c.collation collation) (and_right (is_one_key p) _ e)) in

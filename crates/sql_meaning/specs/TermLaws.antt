@@ -1,5 +1,5 @@
 -- What a term says: as much as its conjunct, or no more than all conjuncts.
-use Rattle.std.specs.Prelude.{◌≡◌, ℕ, true, List}
+use Rattle.std.specs.Prelude.{◌≡◌, ℕ, true, List, ◌⊎◌, Some, false}
 use Rattle.std.specs.List.{AllByRecursion, filter}
 use Rattle.sql_meaning.specs.Values.{Value, Collation}
 use Rattle.sql_meaning.specs.Rows.{Assignment, Site, cell}
@@ -7,15 +7,12 @@ use Rattle.sql_meaning.specs.Expressions.{BExpr, ColumnRef, IsEqual}
 use Rattle.sql_meaning.specs.Evaluation.{holds, compares}
 use Rattle.sql_meaning.specs.Schemas.{Schema}
 use Rattle.sql_meaning.specs.Items.{Item, FitsExpr, own_column}
-use Rattle.sql_meaning.specs.Terms.{Term, TermKind, Serves, kind_holds, term_holds}
+use Rattle.sql_meaning.specs.Terms.{Term, TermKind, Serves, kind_holds, term_holds, IsNothing}
 use Rattle.sql_meaning.specs.Links.{Linked, Derives}
 use Rattle.sql_meaning.specs.Statements.{Bound, FitsStatement, exprs_of, chosen_hold}
 use Rattle.sql_meaning.specs.Conjuncts.{may_derive}
 use Rattle.sql_meaning.specs.Serving.{Served, serving}
-use Rattle.sql_meaning.specs.Terms.{IsNothing}
-use Rattle.std.specs.Prelude.{◌⊎◌, Some}
 use Rattle.sql_meaning.specs.TermLists.{has_ref, linked_to, same_ref}
-use Rattle.std.specs.Prelude.{false}
 
 -- a conjunct that serves a column is true exactly where its term is true of the column
 abbrev pub TermsSayTheirConjuncts : Type 0
