@@ -26,7 +26,7 @@ pub use offering::{
 };
 pub use values::{
     conversions_settle, declared_words_stand_in_text, numbers_are_read, order_is_total,
-    same_is_an_equivalence, written_numbers_read_back,
+    same_is_an_equivalence, truth_is_of_a_run, written_numbers_read_back,
 };
 pub use walks::{
     consumed_conjuncts_hold, index_lists_are_sorted, unions_have_each_row_once, unions_miss_no_row,
