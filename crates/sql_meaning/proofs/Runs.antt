@@ -81,8 +81,15 @@ point_before (b ∷ bs) = by_point (b == 46) b bs refl
     by_point true b bs e =
         let is : b ≡ 46 = grind arith in
         let digits = digits_before bs in
-        record { point = 46 ∷ []; fraction = front_digits bs; rest = without_digits bs; is_point = there; digits = digits.0;
-            split = ap (λ (x : ℕ). x ∷ bs) is ∙ ap (λ (l : List ℕ). 46 ∷ l) digits.1; same = rw e refl }
+        record {
+          point = 46 ∷ [];
+          fraction = front_digits bs;
+          rest = without_digits bs;
+          is_point = there;
+          digits = digits.0;
+          split = ap (λ (x : ℕ). x ∷ bs) is ∙ ap (λ (l : List ℕ). 46 ∷ l) digits.1;
+          same = rw e refl;
+        }
     by_point false b bs e =
         record { point = []; fraction = []; rest = b ∷ bs; is_point = missing; digits = refl; split = refl; same = rw e refl }
 
@@ -103,20 +110,20 @@ true_has_run text e =
     let point = point_before (without_digits number) in
     let whole : List ℕ = front_digits number in
     let found : list_any is_nonzero (whole ++ point.fraction) ≡ true =
-        subst (λ (l : List ℕ). list_any is_nonzero (whole ++ l) ≡ true) point.same e in
+    subst (λ (l : List ℕ). list_any is_nonzero (whole ++ l) ≡ true) point.same e in
     record {
-        run = replicate spaces.0 32 ++ (signs.sign ++ (whole ++ (point.point ++ point.fraction)));
-        rest = point.rest;
-        split =
-            spaces.1
-            ∙ ap (λ (l : List ℕ). replicate spaces.0 32 ++ l)
-            (signs.split
-            ∙ ap (λ (l : List ℕ). signs.sign ++ l) (digits.1 ∙ ap (λ (l : List ℕ). whole ++ l) point.split))
-            ∙ regrouped (replicate spaces.0 32) signs.sign whole point.point point.fraction point.rest;
-        is_run = run_of spaces.0 whole point.fraction signs.is_sign digits.0 point.is_point point.digits refl;
-        nonzero =
-            any_right (replicate spaces.0 32) _
-            (any_right signs.sign _ (any_put_in (list_any is_nonzero whole) whole point.point point.fraction refl found))
+      run = replicate spaces.0 32 ++ (signs.sign ++ (whole ++ (point.point ++ point.fraction)));
+      rest = point.rest;
+      split =
+          spaces.1
+          ∙ ap (λ (l : List ℕ). replicate spaces.0 32 ++ l)
+          (signs.split
+          ∙ ap (λ (l : List ℕ). signs.sign ++ l) (digits.1 ∙ ap (λ (l : List ℕ). whole ++ l) point.split))
+          ∙ regrouped (replicate spaces.0 32) signs.sign whole point.point point.fraction point.rest;
+      is_run = run_of spaces.0 whole point.fraction signs.is_sign digits.0 point.is_point point.digits refl;
+      nonzero =
+          any_right (replicate spaces.0 32) _
+          (any_right signs.sign _ (any_put_in (list_any is_nonzero whole) whole point.point point.fraction refl found));
     }
 
 -- what a run with a digit that isn't 0 does at the start of a text
@@ -180,14 +187,14 @@ from_run : (text run rest : List ℕ) → text ≡ run ++ rest → NumberRun run
 from_run text run rest e (run_of {sign} {point} {negative} n digits fraction s d p f g) h =
     let number : List ℕ = digits ++ (point ++ fraction) in
     let nonzero : list_any is_nonzero number ≡ true =
-        any_behind sign number (no_digit_in_sign sign negative s)
-        (any_behind (replicate n 32) (sign ++ number) (no_spaces n) (ap (list_any is_nonzero) (sym g) ∙ h)) in
+    any_behind sign number (no_digit_in_sign sign negative s)
+    (any_behind (replicate n 32) (sign ++ number) (no_spaces n) (ap (list_any is_nonzero) (sym g) ∙ h)) in
     let split : text ≡ replicate n 32 ++ ((sign ++ number) ++ rest) =
-        e ∙ ap (λ (l : List ℕ). l ++ rest) g ∙ append_assoc (replicate n 32) (sign ++ number) rest in
+    e ∙ ap (λ (l : List ℕ). l ++ rest) g ∙ append_assoc (replicate n 32) (sign ++ number) rest in
     let start : without_sign (without_leading 32 text) ≡ number ++ rest =
-        ap (λ (l : List ℕ). without_sign (without_leading 32 l)) split
-        ∙ ap without_sign (spaces_off n ((sign ++ number) ++ rest))
-        ∙ sign_off sign number rest negative s (number_first digits point fraction rest d p f nonzero) in
+    ap (λ (l : List ℕ). without_sign (without_leading 32 l)) split
+    ∙ ap without_sign (spaces_off n ((sign ++ number) ++ rest))
+    ∙ sign_off sign number rest negative s (number_first digits point fraction rest d p f nonzero) in
     ap (λ (l : List ℕ). list_any is_nonzero (number_digits l)) start ∙ number_counts digits point fraction rest d p f nonzero
 
 pub true_by_run : (text : List ℕ) → (is_true_text text ≡ true) ↔ HasNonzeroRun text
