@@ -1,5 +1,6 @@
 -- Where a word stands in a text.
-use Rattle.std.proofs.Common.{◌≡◌, ℕ, ◌<◌, Bool, true, false, ◌||◌, ◌==◌, ◌↔◌, List, [], ◌∷◌, ◌++◌, length, refl, ap, ap₂, arith}
+use Rattle.std.proofs.Common.{◌≡◌, ℕ, ◌<◌, Bool, true, false, ◌&&◌, ◌||◌, ◌==◌, ◌↔◌, List, [], ◌∷◌}
+use Rattle.std.proofs.Common.{◌++◌, length, refl, ap, ap₂, arith}
 use Rattle.sql_meaning.specs.DeclaredTypes.{begins_with, holds_word}
 use Rattle.sql_meaning.proofs.Reading.{and_left, and_right}
 
@@ -10,7 +11,8 @@ StandsIn word text = (front : List ℕ) × (back : List ℕ) × (text ≡ front 
 same_byte : (a b : ℕ) → (a == b) ≡ true → a ≡ b
 same_byte a b h = grind arith
 
-begins : (word text : List ℕ) → begins_with word text ≡ true → (back : List ℕ) × (text ≡ word ++ back)
+begins : (word text : List ℕ) → begins_with word text ≡ true
+    → (back : List ℕ) × (text ≡ word ++ back)
 begins [] text e = (text, refl)
 begins (w ∷ ws) [] e = absurd (cc)
 begins (w ∷ ws) (b ∷ bs) e =
@@ -19,7 +21,8 @@ begins (w ∷ ws) (b ∷ bs) e =
     (rest.0, ap₂ (λ (x : ℕ) (xs : List ℕ). x ∷ xs) same rest.1)
 
 found_or : (b : Bool) (w : ℕ) (ws text rest : List ℕ) → begins_with (w ∷ ws) text ≡ b
-    → (holds_word (w ∷ ws) rest ≡ true → StandsIn (w ∷ ws) text) → (b || holds_word (w ∷ ws) rest) ≡ true
+    → (holds_word (w ∷ ws) rest ≡ true → StandsIn (w ∷ ws) text)
+    → (b || holds_word (w ∷ ws) rest) ≡ true
     → StandsIn (w ∷ ws) text
 found_or true w ws text rest f g e = let rest = begins (w ∷ ws) text f in ([], rest.0, rest.1)
 found_or false w ws text rest f g e = g e
@@ -45,11 +48,14 @@ or_right true b e = refl
 or_right false b e = e
 
 held : (w : ℕ) (ws front back : List ℕ) → holds_word (w ∷ ws) (front ++ ((w ∷ ws) ++ back)) ≡ true
-held w ws [] back = or_left (begins_with (w ∷ ws) ((w ∷ ws) ++ back)) _ (begins_itself (w ∷ ws) back)
-held w ws (f ∷ fs) back = or_right (begins_with (w ∷ ws) (f ∷ (fs ++ ((w ∷ ws) ++ back)))) _ (held w ws fs back)
+held w ws [] back =
+    or_left (begins_with (w ∷ ws) ((w ∷ ws) ++ back)) _ (begins_itself (w ∷ ws) back)
+held w ws (f ∷ fs) back =
+    or_right (begins_with (w ∷ ws) (f ∷ (fs ++ ((w ∷ ws) ++ back)))) _ (held w ws fs back)
 
 pub held_exactly : (word text : List ℕ) → 0 < length word
-    → (holds_word word text ≡ true) ↔ ((front : List ℕ) × (back : List ℕ) × (text ≡ front ++ (word ++ back)))
+    → (holds_word word text ≡ true) ↔ ((front : List ℕ) × (back : List ℕ)
+    × (text ≡ front ++ (word ++ back)))
 held_exactly [] text h = absurd (omega (arith, h))
 held_exactly (w ∷ ws) text h =
     (found w ws text, λ part. rw part.2 (held w ws part.0 part.1))

@@ -1,7 +1,9 @@
 -- What becomes of a value in a column, and of the two sides of a comparison.
-use Rattle.std.specs.Prelude.{◌≡◌, ◌^◌, pos, nat_abs, ◌*ℤ◌, int_div, int_rem, Bool, true, false, not, ◌&&◌, ◌==◌, nat_lt, if◌then◌else◌, Option, Some, None, unwrap_or}
+use Rattle.std.specs.Prelude.{◌≡◌, ◌^◌, pos, nat_abs, ◌*ℤ◌, int_div, int_rem, Bool, true, false}
+use Rattle.std.specs.Prelude.{not, ◌&&◌, ◌==◌, nat_lt, if◌then◌else◌, Option, Some, None, unwrap_or}
 use Rattle.std.specs.Fmt.{signed_decimal}
-use Rattle.sql_meaning.specs.Values.{Value, Null, Int, Dec, Text, Blob, Affinity, Integer, Real, Numeric, TextAffinity, BlobAffinity}
+use Rattle.sql_meaning.specs.Values.{Value, Null, Int, Dec, Text, Blob, Affinity, Integer, Real}
+use Rattle.sql_meaning.specs.Values.{Numeric, TextAffinity, BlobAffinity}
 use Rattle.sql_meaning.specs.Numbers.{read_number, dec_text}
 
 -- a text that reads as a number is that number
@@ -24,7 +26,8 @@ narrowed (Blob bytes) = Blob bytes
 -- an Int below 10^11 on either side of 0 is a Dec
 abbrev pub widened : Value → Value
 widened Null = Null
-widened (Int number) = if nat_lt (nat_abs number) (10 ^ 11) then Dec (number *ℤ pos 10000) else Int number
+widened (Int number) =
+    if nat_lt (nat_abs number) (10 ^ 11) then Dec (number *ℤ pos 10000) else Int number
 widened (Dec units) = Dec units
 widened (Text bytes) = Text bytes
 widened (Blob bytes) = Blob bytes

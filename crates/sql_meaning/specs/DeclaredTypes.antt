@@ -1,5 +1,6 @@
 -- The affinity of a column, by its declared type.
-use Rattle.std.specs.Prelude.{ℕ, Bool, true, false, ◌&&◌, ◌||◌, ◌==◌, if◌then◌else◌, List, [], ◌∷◌, length, codes}
+use Rattle.std.specs.Prelude.{ℕ, Bool, true, false, ◌&&◌, ◌||◌, ◌==◌, if◌then◌else◌, List, [], ◌∷◌}
+use Rattle.std.specs.Prelude.{length, codes}
 use Rattle.sql_meaning.specs.Letters.{folded_bytes}
 use Rattle.sql_meaning.specs.Values.{Affinity, Integer, Real, Numeric, TextAffinity, BlobAffinity}
 
@@ -17,10 +18,12 @@ holds_word word (b ∷ bs) = begins_with word (b ∷ bs) || holds_word word bs
 abbrev pub affinity_of_folded : List ℕ → Affinity
 affinity_of_folded type =
     if holds_word (codes "int") type then Integer else (
-    if holds_word (codes "char") type || holds_word (codes "clob") type || holds_word (codes "text") type
+    if holds_word (codes "char") type || holds_word (codes "clob") type
+    || holds_word (codes "text") type
     then TextAffinity else (
     if holds_word (codes "blob") type || length type == 0 then BlobAffinity else (
-    if holds_word (codes "real") type || holds_word (codes "floa") type || holds_word (codes "doub") type
+    if holds_word (codes "real") type || holds_word (codes "floa") type
+    || holds_word (codes "doub") type
     then Real else Numeric)))
 
 abbrev pub affinity_of : List ℕ → Affinity

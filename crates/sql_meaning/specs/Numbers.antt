@@ -1,5 +1,8 @@
 -- Which texts read as numbers, and the texts of numbers.
-use Rattle.std.specs.Prelude.{◌≡◌, ℕ, ◌+◌, ◌-◌, ◌*◌, ◌/◌, ◌%◌, ◌^◌, ◌<◌, ◌≤◌, ℤ, pos, neg_ℤ, unsigned_abs, Bool, true, false, ◌&&◌, ◌==◌, nat_le, if◌then◌else◌, List, [], ◌∷◌, ◌++◌, length, take, drop, position, Option, Some, None, option_map, option_and_then, decimal}
+use Rattle.std.specs.Prelude.{◌≡◌, ℕ, ◌+◌, ◌-◌, ◌*◌, ◌/◌, ◌%◌, ◌^◌, ◌<◌, ◌≤◌, ℤ, pos, neg_ℤ}
+use Rattle.std.specs.Prelude.{unsigned_abs, Bool, true, false, ◌&&◌, ◌==◌, nat_le, if◌then◌else◌}
+use Rattle.std.specs.Prelude.{List, [], ◌∷◌, ◌++◌, length, take, drop, position, Option, Some, None}
+use Rattle.std.specs.Prelude.{option_map, option_and_then, decimal}
 use Rattle.std.specs.Fmt.{sign_text}
 use Rattle.std.specs.Int.{is_negative}
 use Rattle.std.specs.Str.{all_ascii_digits}
@@ -54,9 +57,11 @@ read_whole false digits = option_map (λ n. Int (signed false n)) (digits_up_to 
 
 abbrev pub read_pointed : Bool → List ℕ → List ℕ → Option Value
 read_pointed negative digits fraction =
-    option_and_then (λ n. option_and_then (λ f.
+    option_and_then (λ n.
+    option_and_then (λ f.
     if nat_le (length fraction) 4
-    then Some (Dec (signed negative (n * 10000 + f * last_digit_units (length fraction)))) else None)
+    then Some (Dec (signed negative (n * 10000 + f * last_digit_units (length fraction))))
+    else None)
     (digits_up_to 9999 fraction)) (digits_up_to 99999999999 digits)
 
 abbrev pub is_point : ℕ → Bool
@@ -64,7 +69,8 @@ is_point byte = byte == 46
 
 abbrev pub read_around : Bool → List ℕ → Option ℕ → Option Value
 read_around negative bytes None = read_whole negative bytes
-read_around negative bytes (Some place) = read_pointed negative (take place bytes) (drop (place + 1) bytes)
+read_around negative bytes (Some place) =
+    read_pointed negative (take place bytes) (drop (place + 1) bytes)
 
 abbrev pub read_unsigned : Bool → List ℕ → Option Value
 read_unsigned negative bytes = read_around negative bytes (position is_point bytes)
@@ -79,9 +85,11 @@ read_number (b ∷ bs) =
 -- the four digits of f / 10000 without the zeros at the end, but for the first digit
 abbrev pub fraction_text : ℕ → List ℕ
 fraction_text f =
-    (48 + f / 1000) ∷ without_trailing 48 ((48 + f / 100 % 10) ∷ (48 + f / 10 % 10) ∷ (48 + f % 10) ∷ [])
+    (48 + f / 1000)
+    ∷ without_trailing 48 ((48 + f / 100 % 10) ∷ (48 + f / 10 % 10) ∷ (48 + f % 10) ∷ [])
 
 -- sign, whole part, point and fraction
 abbrev pub dec_text : ℤ → List ℕ
 dec_text u =
-    sign_text (is_negative u) ++ (decimal (unsigned_abs u / 10000) ++ 46 ∷ fraction_text (unsigned_abs u % 10000))
+    sign_text (is_negative u)
+    ++ (decimal (unsigned_abs u / 10000) ++ 46 ∷ fraction_text (unsigned_abs u % 10000))

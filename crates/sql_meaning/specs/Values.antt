@@ -1,5 +1,6 @@
 -- Values of a row, a constant or a result, and their order.
-use Rattle.std.specs.Prelude.{◌≡◌, ℕ, ◌<◌, ◌^◌, ℤ, pos, negsuc, nat_abs, ◌*ℤ◌, Bool, true, false, cond, ◌==◌, List, [], ◌∷◌, reverse}
+use Rattle.std.specs.Prelude.{◌≡◌, ℕ, ◌<◌, ◌^◌, ℤ, pos, negsuc, nat_abs, ◌*ℤ◌, Bool, true, false}
+use Rattle.std.specs.Prelude.{cond, ◌==◌, List, [], ◌∷◌, reverse}
 use Rattle.std.specs.declared.cmp.Ordering.{Ordering}
 use Rattle.std.specs.declared.cmp.Ordering.TheVariants.{Less, Equal}
 use Rattle.std.specs.List.{AllByRecursion}
@@ -89,7 +90,9 @@ key_of coll (Blob bytes) = bytes
 
 -- by class, then as numbers, then by key
 abbrev pub value_cmp : Collation → Value → Value → Ordering
-value_cmp coll = then_cmp (on class_of nat_cmp) (then_cmp (on units_of int_cmp) (on (key_of coll) (slice_cmp nat_cmp)))
+value_cmp coll =
+    then_cmp (on class_of nat_cmp)
+    (then_cmp (on units_of int_cmp) (on (key_of coll) (slice_cmp nat_cmp)))
 
 abbrev pub Before : Collation → Value → Value → Type 0
 Before coll v w = value_cmp coll v w ≡ Less
