@@ -1,5 +1,5 @@
 //! Laws of values.
-ghost use Rattle.std.specs.Prelude.{◌≡◌, ◌≢◌, ◌<◌, ◌^◌, ◌++◌, ◌↔◌, ℕ, ℤ, List, nat_abs, true, length, Some};
+ghost use Rattle.std.specs.Prelude.{◌≡◌, ◌<◌, ◌^◌, ◌++◌, ◌↔◌, ℕ, ℤ, List, nat_abs, true, length, Some};
 ghost use Rattle.std.specs.Cmp.{IsTotalOrder};
 ghost use Rattle.std.specs.Fmt.{signed_decimal};
 ghost use Rattle.sql_meaning.specs.Values.{Value, Null, Int, Dec, Text, Blob, Collation, Affinity, value_cmp, Before, Same, IsI64, IsValue};
@@ -45,8 +45,8 @@ pub fn conversions_settle()
     ensures bounds { (aff : Affinity) → (v : Value) → IsValue v → IsValue (converted aff v) }
 {}
 
-/// A text is true exactly where a run of spaces, a sign, digits, a point and digits at its start, each
-/// of which may be missing, has a digit from 1 to 9.
+/// A text is true exactly where a run of spaces, a sign, digits, a point and digits at its start,
+/// each of which may be missing, has a digit from 1 to 9.
 pub fn truth_is_of_a_run()
     ensures { (text : List ℕ) → (is_true_text text ≡ true) ↔ HasNonzeroRun text }
 {}

@@ -1,6 +1,8 @@
 -- Values as plain data: texts and blobs are lists of bytes.
 use Rattle.sql_value.specs.declared.values.Affinity.{Affinity}
-use Rattle.sql_value.specs.declared.values.Affinity.TheVariants.{Integer, Real, Numeric, Text as TextAffinity, Blob as BlobAffinity}
+use Rattle.sql_value.specs.declared.values.Affinity.TheVariants.{Integer, Real, Numeric}
+use Rattle.sql_value.specs.declared.values.Affinity.TheVariants.{Text as TextAffinity}
+use Rattle.sql_value.specs.declared.values.Affinity.TheVariants.{Blob as BlobAffinity}
 use Rattle.sql_value.specs.declared.values.Collation.{Collation}
 use Rattle.sql_value.specs.declared.values.Collation.TheVariants.{Binary, Nocase, Rtrim}
 use Rattle.sql_value.specs.declared.values.Value.{Value}

@@ -1,7 +1,6 @@
 //! The truth of a value as a condition.
-ghost use Rattle.std.specs.Prelude.{◌≡◌, drop};
-ghost use Rattle.std.specs.Char.{is_ascii_digit};
-ghost use Rattle.std.specs.List.{prefix_len, list_any};
+ghost use Rattle.std.specs.Prelude.{◌≡◌};
+ghost use Rattle.std.specs.List.{list_any};
 ghost use Rattle.sql_meaning.specs.Truth as meant;
 ghost use Rattle.sql_meaning.specs.Values.{without_leading};
 ghost use Rattle.sql_value.specs.View.{plain_value};

@@ -1,5 +1,5 @@
 //! What becomes of a value in a column, and of the two sides of a comparison.
-ghost use Rattle.std.specs.Prelude.{◌≡◌, IfOk, option_map};
+ghost use Rattle.std.specs.Prelude.{◌≡◌, IfOk, IsErr, option_map};
 ghost use Rattle.sql_meaning.specs.Conversions as meant;
 ghost use Rattle.sql_value.specs.View.{plain_value, plain_affinity};
 
@@ -8,7 +8,8 @@ use crate::numbers::{dec_text, int_text, read_number};
 use crate::values::{Affinity, Conversions, Value};
 use std::alloc::Global;
 
-/// The value as a column of this affinity holds it: section 3 of <https://sqlite.org/datatype3.html>.
+/// The value as a column of this affinity holds it: section 3 of
+/// <https://sqlite.org/datatype3.html>.
 pub fn apply(alloc: Global, aff: Affinity, value: &Value) -> Result<Value, Memory>
     ensures { IfOk result (λ made. plain_value made ≡ meant.converted (plain_affinity aff) (plain_value value.now)) }
 {
@@ -21,8 +22,10 @@ pub fn apply(alloc: Global, aff: Affinity, value: &Value) -> Result<Value, Memor
 }
 
 /// The answer of [`apply`] for a value that is given up for it: what stays as it is, is moved.
+/// Takes memory under TEXT alone.
 pub fn convert(alloc: Global, aff: Affinity, value: Value) -> Result<Value, Memory>
-    ensures { IfOk result (λ made. plain_value made ≡ meant.converted (plain_affinity aff) (plain_value value)) }
+    ensures memory { IsErr result → aff ≡ Affinity.Text }
+    ensures converted { IfOk result (λ made. plain_value made ≡ meant.converted (plain_affinity aff) (plain_value value)) }
 {
     match aff {
         Affinity::Integer | Affinity::Numeric => Ok(narrow(with_text_read(value))),

@@ -1,5 +1,5 @@
 //! Texts that read as numbers, and the texts of numbers.
-ghost use Rattle.std.specs.Prelude.{◌≡◌, ◌<◌, ◌≤◌, ◌+◌, ◌++◌, ◌^◌, ◌∷◌, length, IfOk, OnOk, option_map};
+ghost use Rattle.std.specs.Prelude.{◌≡◌, ◌<◌, ◌≤◌, ◌+◌, ◌++◌, ◌^◌, IfOk, OnOk, option_map};
 ghost use Rattle.std.specs.Fmt.{signed_decimal};
 ghost use Rattle.sql_meaning.specs.Numbers as meant;
 ghost use Rattle.sql_value.specs.View.{plain_value};
@@ -14,11 +14,12 @@ const MOST_WHOLE_PART: u64 = 99_999_999_999;
 /// The distance of `i64::MIN` from 0.
 const MOST_BELOW_ZERO: u64 = 0x8000_0000_0000_0000;
 
-/// The number that a text reads as: an optional sign and digits within 64 bits, or an optional sign,
-/// digits, a point and one to four digits, below 10^11 on either side of 0. Any other text, also one
-/// with spaces, is `None`. Takes no memory.
+/// The number that a text reads as: an optional sign and digits within 64 bits, or an optional
+/// sign, digits, a point and one to four digits, below 10^11 on either side of 0. Any other text,
+/// also one with spaces, is `None`. Takes no memory.
 ///
-/// Section 3.2 of <https://sqlite.org/datatype3.html> has this for SQLite, whose numbers take more forms.
+/// Section 3 of <https://sqlite.org/datatype3.html> has this for SQLite, whose numbers take more
+/// forms.
 pub fn read_number(text: &[u8]) -> Option<Value>
     ensures { option_map plain_value result ≡ meant.read_number text.now }
 {

@@ -5,4 +5,5 @@ use Rattle.sql_value.proofs.condition.has_nonzero.Given as goal
 
 abbrev pub invariant-loop-byte : goal.invariant-loop-byte
 invariant-loop-byte l =
-    list_any is_nonzero (front_digits (drop l.byte-index l.text)) ≡ list_any is_nonzero (front_digits l.text)
+    list_any is_nonzero (front_digits (drop l.byte-index l.text)) ≡ list_any is_nonzero
+    (front_digits l.text)

@@ -9,6 +9,10 @@ use Rattle.sql_value.proofs.order.compare_folded.Goals as goal
 pub returns : goal.returns
 returns c =
     cmp_from_yields_List (λ x y. y ≡ x) _ nat_cmp _ c.cmp.ensures.ran
-    (YieldsList-from_map _ folded (YieldsList-at c.map.ensures.source (YieldsList-from_slice c.args.left.now (cc))) c.map.ensures.closure (λ x r q k. search rules))
-    (λ it e. YieldsList-at e (YieldsList-from_map _ folded (YieldsList-at c.map-2.ensures.source (YieldsList-from_slice c.args.right.now (cc))) c.map-2.ensures.closure (λ x r q k. search rules)))
+    (YieldsList-from_map _ folded (YieldsList-at c.map.ensures.source
+    (YieldsList-from_slice c.args.left.now (cc))) c.map.ensures.closure
+    (λ x r q k. search rules))
+    (λ it e. YieldsList-at e (YieldsList-from_map _ folded
+    (YieldsList-at c.map-2.ensures.source (YieldsList-from_slice c.args.right.now (cc)))
+    c.map-2.ensures.closure (λ x r q k. search rules)))
     (λ x y. refl)

@@ -1,4 +1,5 @@
-use Rattle.std.proofs.Common.{◌≡◌, ℕ, ◌<◌, false, List, [], ◌∷◌, length, drop, refl, sym, ◌∙◌, arith}
+use Rattle.std.proofs.Common.{◌≡◌, ℕ, ◌<◌, false, List, [], ◌∷◌, length, drop, refl, sym, ◌∙◌}
+use Rattle.std.proofs.Common.{arith}
 use Rattle.std.proofs.lemmas.List.{drop_more}
 use Rattle.sql_meaning.specs.DeclaredTypes.{begins_with}
 use Rattle.sql_meaning.specs.Letters.{folded_bytes}
@@ -11,5 +12,6 @@ text_ended word (b ∷ bs) i h e = absurd (omega (arith, e))
 
 pub returns-in_default : goal.returns-in_default
 returns-in_default c =
-    sym (text_ended c.args.word.now c.loop-letter.rest.now c.loop-letter.letter-index c.loop-letter-test.true c.in_default.len_below)
+    sym (text_ended c.args.word.now c.loop-letter.rest.now c.loop-letter.letter-index
+    c.loop-letter-test.true c.in_default.len_below)
     ∙ c.loop-letter.invariant

@@ -5,4 +5,5 @@ use Rattle.sql_value.proofs.types.begins_with.Given as goal
 
 abbrev pub invariant-loop-letter : goal.invariant-loop-letter
 invariant-loop-letter l =
-    begins_with (drop l.letter-index l.word) (folded_bytes l.rest) ≡ begins_with l.word (folded_bytes l.text)
+    begins_with (drop l.letter-index l.word) (folded_bytes l.rest) ≡ begins_with l.word
+    (folded_bytes l.text)
