@@ -7,8 +7,8 @@ ghost use Rattle.sql_value.specs.View.{plain_value};
 
 use crate::values::Value;
 
-/// The truth of a value, `None` where it is unknown, exactly for NULL: section 3.2 of
-/// <https://sqlite.org/lang_expr.html> and its section on converting to a boolean. Takes no memory.
+/// The truth of a value, `None` where it is unknown, exactly for NULL: "Boolean Expressions" of
+/// <https://sqlite.org/lang_expr.html>, but that a number has no exponent. Takes no memory.
 pub fn truth(value: &Value) -> Option<bool>
     ensures { result ≡ meant.truth3 (plain_value value.now) }
 {
