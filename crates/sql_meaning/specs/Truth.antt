@@ -1,4 +1,5 @@
--- The truth of a value as a condition: true, false or unknown.
+-- The truth of a value as a condition: true, false or unknown (lang_expr, "Boolean Expressions").
+-- Of bytes, 32 is a space, 43 a plus, 45 a minus, 46 a point, and 48 to 57 are the digits.
 use Rattle.std.specs.Prelude.{◌≡◌, ℕ, nat_abs, Bool, true, not, ◌&&◌, ◌||◌, ◌==◌, if◌then◌else◌}
 use Rattle.std.specs.Prelude.{List, [], ◌∷◌, ◌++◌, replicate, Option, Some, None}
 use Rattle.std.specs.Char.{is_ascii_digit}
@@ -6,27 +7,6 @@ use Rattle.std.specs.List.{list_any}
 use Rattle.std.specs.Str.{all_ascii_digits}
 use Rattle.sql_meaning.specs.Values.{Value, Null, Int, Dec, Text, Blob, without_leading}
 use Rattle.sql_meaning.specs.Numbers.{Sign}
-
-abbrev pub without_sign : List ℕ → List ℕ
-without_sign [] = []
-without_sign (b ∷ bs) = if b == 43 || b == 45 then bs else (b ∷ bs)
-
-abbrev pub front_digits : List ℕ → List ℕ
-front_digits [] = []
-front_digits (b ∷ bs) = if is_ascii_digit b then b ∷ front_digits bs else []
-
-abbrev pub without_digits : List ℕ → List ℕ
-without_digits [] = []
-without_digits (b ∷ bs) = if is_ascii_digit b then without_digits bs else (b ∷ bs)
-
--- the digits behind a point, where one comes first
-abbrev pub digits_behind_point : List ℕ → List ℕ
-digits_behind_point [] = []
-digits_behind_point (b ∷ bs) = if b == 46 then front_digits bs else []
-
--- the digits of the longest run of digits, a point and digits at the start
-abbrev pub number_digits : List ℕ → List ℕ
-number_digits bytes = front_digits bytes ++ digits_behind_point (without_digits bytes)
 
 abbrev pub is_nonzero : ℕ → Bool
 is_nonzero byte = is_ascii_digit byte && not (byte == 48)
@@ -50,6 +30,27 @@ pub record HasNonzeroRun (text : List ℕ) : Type 0 where
   pub split : text ≡ run ++ rest
   pub is_run : NumberRun run
   pub nonzero : list_any is_nonzero run ≡ true
+
+abbrev pub without_sign : List ℕ → List ℕ
+without_sign [] = []
+without_sign (b ∷ bs) = if b == 43 || b == 45 then bs else (b ∷ bs)
+
+abbrev pub front_digits : List ℕ → List ℕ
+front_digits [] = []
+front_digits (b ∷ bs) = if is_ascii_digit b then b ∷ front_digits bs else []
+
+abbrev pub without_digits : List ℕ → List ℕ
+without_digits [] = []
+without_digits (b ∷ bs) = if is_ascii_digit b then without_digits bs else (b ∷ bs)
+
+-- the digits behind a point, where one comes first
+abbrev pub digits_behind_point : List ℕ → List ℕ
+digits_behind_point [] = []
+digits_behind_point (b ∷ bs) = if b == 46 then front_digits bs else []
+
+-- the digits of the longest run of digits, a point and digits at the start
+abbrev pub number_digits : List ℕ → List ℕ
+number_digits bytes = front_digits bytes ++ digits_behind_point (without_digits bytes)
 
 -- the same, answered by the longest run
 abbrev pub is_true_text : List ℕ → Bool
