@@ -1,1 +1,5 @@
 pub mod StatementSteps
+pub mod RowWindows
+pub mod RowPasses
+pub mod FirstSomewhere
+pub mod TableParts

@@ -1,2 +1,11 @@
 pub mod Looks
 pub mod Statements
+pub mod Places
+pub mod StatementPatterns
+pub mod ExpressionPatterns
+pub mod OperatorPatterns
+pub mod JoinPatterns
+pub mod ClausePatterns
+pub mod Rows
+pub mod Patterns
+pub mod EntryNames

@@ -1,13 +1,13 @@
 -- The statements of a text.
 use Rattle.std.specs.Prelude.{ℕ, zero, suc, ◌+◌, ◌-◌, Bool, not, ◌==◌, ◌&&◌, ◌||◌, cond}
 use Rattle.std.specs.Prelude.{Some, List, [], ◌∷◌, ◌++◌, map, slice_get}
-use Rattle.std.specs.List.{prefix_len, list_any}
+use Rattle.std.specs.List.{prefix_len}
 use Rattle.sql_value.specs.declared.keywords.Keyword.TheVariants as keyword
 use Rattle.sql_tokens.specs.Terminals.{terminal_of}
 use Rattle.sql_tokens.specs.declared.symbols.Symbol.TheVariants as symbol
 use Rattle.sql_tokens.specs.declared.terminal.Terminal.{Terminal}
 use Rattle.sql_tokens.specs.declared.token.Token.{Token}
-use Rattle.sql_lex.specs.Looks.{is_keyword, is_symbol}
+use Rattle.sql_lex.specs.Looks.{is_keyword, is_keyword_among, is_symbol}
 use Rattle.sql_lex.specs.declared.statement_runs.Span.{Span}
 
 -- no `;`
@@ -20,7 +20,7 @@ begins_trigger ts =
     let second = slice_get ts 1 in
     is_keyword keyword.Create (slice_get ts 0)
     && (is_keyword keyword.Trigger second
-    || (list_any (λ k. is_keyword k second) (keyword.Temp ∷ keyword.Temporary ∷ [])
+    || (is_keyword_among (keyword.Temp ∷ keyword.Temporary ∷ []) second
     && is_keyword keyword.Trigger (slice_get ts 2)))
 
 -- a `;`, END and the `;` that closes
