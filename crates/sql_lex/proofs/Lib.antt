@@ -3,3 +3,4 @@ pub mod RowWindows
 pub mod RowPasses
 pub mod FirstSomewhere
 pub mod TableParts
+pub mod LevelStacks

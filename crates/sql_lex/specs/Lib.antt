@@ -9,3 +9,4 @@ pub mod ClausePatterns
 pub mod Rows
 pub mod Patterns
 pub mod EntryNames
+pub mod Depth

@@ -2,6 +2,7 @@
 #![tactic(auto)]
 
 mod clause_patterns;
+mod depth;
 mod entry_names;
 mod expression_patterns;
 mod foreign_entries;
@@ -13,6 +14,7 @@ mod row_values;
 mod statement_patterns;
 mod statement_runs;
 
+pub use depth::too_deep;
 pub use entry_names::{Foreign, foreign_name};
 pub use foreign_entries::foreign;
 pub use sql_tokens::{
