@@ -5,3 +5,4 @@ pub mod Tokens
 pub mod Symbols
 pub mod Terminals
 pub mod TokenValues
+pub mod NumberValues

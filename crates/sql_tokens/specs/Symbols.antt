@@ -25,7 +25,7 @@ one_byte_symbol a =
 
 unfoldable pub two_byte_symbol : ℕ → ℕ → Option Symbol
 two_byte_symbol a b =
-    cond (a == 61 && b == 61) (Some symbol.Equal)
+    cond (a == 61 && b == 61) (Some symbol.DoubleEqual)
     (cond ((a == 60 && b == 62) || (a == 33 && b == 61)) (Some symbol.NotEqual)
     (cond (a == 60 && b == 61) (Some symbol.AtMost)
     (cond (a == 62 && b == 61) (Some symbol.AtLeast)

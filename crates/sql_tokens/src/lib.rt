@@ -3,6 +3,7 @@
 
 mod characters;
 mod cut;
+mod number_values;
 mod numbers;
 mod pieces;
 mod quotes;
@@ -13,6 +14,7 @@ mod token;
 mod values;
 
 pub use cut::lex;
+pub use number_values::{Number, signed_number, token_number};
 pub use symbols::{Symbol, find_symbol};
 pub use terminal::{Terminal, terminal_at, token_text};
 pub use token::{Token, TokenKind, Tokens};

@@ -1,15 +1,15 @@
 //! The forms of numbers, and parameters by number.
 ghost use Rattle.std.specs.Prelude.{◌≡◌, ◌<◌, ◌≤◌, ◌+◌, length};
-ghost use Rattle.sql_meaning.specs.Numbers.{digits_up_to};
 ghost use Rattle.sql_tokens.specs.Pieces.{parts_len, exponent_len, hex_len, decimal_len};
 ghost use Rattle.sql_tokens.specs.Pieces.{number_len, number_at, numbered_parameter_at};
 
 use crate::pieces::{Piece, token_piece};
 use crate::runs::{begins, digit_run, hex_run, word_run};
 use crate::token::TokenKind;
+use sql_value::read_digits;
 
 /// The greatest number of a parameter.
-const MOST_PARAMETERS: u32 = 32766;
+const MOST_PARAMETERS: u64 = 32766;
 
 /// Digits, a point and digits: how many bytes, or 0 where there is no digit.
 #[tactic(auto, unfolding(crate::specs::Pieces::parts_len))]
@@ -105,26 +105,6 @@ pub(crate) fn number_piece(len: usize, bytes: &[u8]) -> Piece
     }
 }
 
-/// The number that digits write, where it is at most the greatest of a parameter.
-pub(crate) fn parameter_digits(digits: &[u8]) -> Option<u32>
-    ensures { result ≡ digits_up_to 32766 digits.now }
-{
-    if digits.is_empty() {
-        return None;
-    }
-    let mut number: u32 = 0;
-    for digit in digits {
-        if *digit < b'0' || *digit > b'9' {
-            return None;
-        }
-        number = 10 * number + (*digit - b'0') as u32;
-        if number > MOST_PARAMETERS {
-            return None;
-        }
-    }
-    Some(number)
-}
-
 /// `?`, or `?` and the digits of a parameter's number; a bad token where the number is none.
 #[tactic(auto, unfolding(crate::specs::Pieces::numbered_parameter_at))]
 pub(crate) fn numbered_parameter_piece(bytes: &[u8]) -> Piece
@@ -138,7 +118,7 @@ pub(crate) fn numbered_parameter_piece(bytes: &[u8]) -> Piece
     if digits == 0 {
         return token_piece(TokenKind::Parameter, 1);
     }
-    match parameter_digits(&behind[..digits]) {
+    match read_digits(MOST_PARAMETERS, &behind[..digits]) {
         None | Some(0) => token_piece(TokenKind::Bad, 1 + digits),
         Some(_) => token_piece(TokenKind::Parameter, 1 + digits),
     }

@@ -2,8 +2,8 @@
 ghost use Rattle.std.specs.Prelude.{◌≡◌};
 ghost use Rattle.sql_tokens.specs.Symbols.{symbol_of, one_byte_symbol, two_byte_symbol};
 
-/// Punctuation and operators (<https://www.sqlite.org/lang_expr.html>). Two spellings of one
-/// operator are one symbol.
+/// Punctuation and operators (<https://www.sqlite.org/lang_expr.html>). `<>` and `!=` are one
+/// symbol.
 #[derive(Clone, Copy, Debug, PartialEq, Eq)]
 pub enum Symbol {
     /// `(`
@@ -26,8 +26,10 @@ pub enum Symbol {
     Slash,
     /// `%`
     Percent,
-    /// `=` or `==`
+    /// `=`
     Equal,
+    /// `==`, which compares as `=` does, but sets no column
+    DoubleEqual,
     /// `<>` or `!=`
     NotEqual,
     /// `<`
@@ -86,7 +88,7 @@ fn two_byte_symbol(first: u8, second: u8) -> Option<Symbol>
     ensures { result ≡ two_byte_symbol first second }
 {
     match (first, second) {
-        (b'=', b'=') => Some(Symbol::Equal),
+        (b'=', b'=') => Some(Symbol::DoubleEqual),
         (b'<', b'>') | (b'!', b'=') => Some(Symbol::NotEqual),
         (b'<', b'=') => Some(Symbol::AtMost),
         (b'>', b'=') => Some(Symbol::AtLeast),

@@ -17,7 +17,7 @@ pub use conversion::{apply, conversions, convert};
 pub use items::{Bytes, Items, Memory};
 pub use keywords::{Keyword, find_keyword, is_same_word, keyword_text};
 pub use names::{fold, fold_byte};
-pub use numbers::read_number;
+pub use numbers::{last_digit_units, read_digits, read_number, with_sign};
 pub use order::compare;
 pub use reserved::{is_reserved, is_reserved_keyword};
 pub use types::affinity_of;

@@ -73,8 +73,9 @@ fn read_pointed(negative: bool, digits: &[u8], fraction: &[u8]) -> Option<Value>
     Some(Value::Dec(with_sign(negative, units)))
 }
 
-/// The number that one digit or more write, where it is at most this.
-fn read_digits(most: u64, digits: &[u8]) -> Option<u64>
+/// The number that one digit or more write, where it is at most this; `None` for any other text.
+/// Takes no memory.
+pub fn read_digits(most: u64, digits: &[u8]) -> Option<u64>
     requires { most ≤ 2 ^ 63 }
     ensures { result ≡ meant.digits_up_to most digits.now }
 {
@@ -95,7 +96,8 @@ fn read_digits(most: u64, digits: &[u8]) -> Option<u64>
     Some(number)
 }
 
-fn with_sign(negative: bool, number: u64) -> i64
+/// A size with its sign.
+pub fn with_sign(negative: bool, number: u64) -> i64
     requires { number < 2 ^ 63 }
     ensures { result ≡ meant.signed negative number }
 {
@@ -106,7 +108,8 @@ fn with_sign(negative: bool, number: u64) -> i64
     }
 }
 
-fn last_digit_units(places: usize) -> u64
+/// How many units of 1/10000 the last of so many digits behind a point stands for.
+pub fn last_digit_units(places: usize) -> u64
     requires { places ≤ 4 }
     ensures { result ≡ meant.last_digit_units places }
 {
