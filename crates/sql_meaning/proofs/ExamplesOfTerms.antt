@@ -3,6 +3,7 @@ use Rattle.std.proofs.Common.{◌≡◌, ℕ, true, false, List, [], ◌∷◌, 
 use Rattle.sql_meaning.specs.Values.{BlobAffinity, Integer, Numeric, TextAffinity, Binary, Nocase}
 use Rattle.sql_meaning.specs.Values.{Collation}
 use Rattle.sql_meaning.specs.Rows.{Site, AtColumn}
+use Rattle.sql_meaning.specs.Expressions.{BExpr}
 use Rattle.sql_meaning.specs.Expressions.{Lit, Column, Collate, Plus, Cmp, Any, All, Nil, More}
 use Rattle.sql_meaning.specs.Expressions.{IsEqual, IsBelow, ColumnRef}
 use Rattle.sql_meaning.specs.Schemas.{Schema}
@@ -11,7 +12,8 @@ use Rattle.sql_meaning.specs.Terms.{Term, Equals, Within, Low}
 use Rattle.sql_meaning.specs.Statements.{Bound, Conjunct}
 use Rattle.sql_meaning.specs.Conjuncts.{first_at, may_serve}
 use Rattle.sql_meaning.specs.Serving.{serving}
-use Rattle.sql_meaning.specs.TermLists.{column_terms, item_terms, OffersBranches, linked_to}
+use Rattle.sql_meaning.specs.TermLists.{or_terms, column_terms, item_terms, OffersBranches}
+use Rattle.sql_meaning.specs.TermLists.{linked_to}
 use Rattle.sql_meaning.specs.Choices.{seek_offer}
 use Rattle.sql_meaning.proofs.ExampleData.{int, table_of_columns, rising, index_on, from, left_join}
 use Rattle.sql_meaning.proofs.ExampleData.{equals_number, converted_key, common, owned, equals}
@@ -156,6 +158,28 @@ branches : OffersBranches three
     }
     ∷ record { path = IndexSeek 1 (one (number_key 3)) None None; used = term_of 2 3 ∷ [] } ∷ [])
 branches = (inr (0, refl), (inr (1, refl), tt))
+
+-- it is an OR term, because each branch has a term; `a = 1 OR a = 2` is an IN term in its place,
+-- and `a = 1 OR +b = 2` is neither
+abbrev or_numbers : BExpr → List ℕ
+or_numbers e =
+    map (λ o. o.conjunct)
+    (or_terms three (select (from 0 ∷ []) (Column 0 0 ∷ []) (common e ∷ []) []) 0)
+
+each_branch_has_one : or_numbers either.expr ≡ 0 ∷ []
+each_branch_has_one = refl
+
+in_term : or_numbers
+    (Any (More (equals (Column 0 0) (Lit (int 1))) (More (equals (Column 0 0) (Lit (int 2))) Nil)))
+    ≡ []
+in_term = refl
+
+branch_without : or_numbers
+    (Any
+    (More (equals (Column 0 0) (Lit (int 1)))
+    (More (equals (Plus (Column 0 1)) (Lit (int 2))) Nil)))
+    ≡ []
+branch_without = refl
 
 -- `FROM t LEFT JOIN u ON u.b = t.a WHERE t.a = 1`: u is served by its own conjunct alone, and that
 -- is first known at u's loop; the common one at t's

@@ -7,10 +7,10 @@ use Rattle.std.specs.declared.cmp.Ordering.{Ordering}
 use Rattle.std.specs.Ordering.{nat_cmp, on, then_cmp}
 use Rattle.list_laws.specs.Order.{sort_by}
 use Rattle.sql_meaning.specs.Expressions.{ColumnRef, IsEqual, BExpr, Cmp, bare_column, names}
-use Rattle.sql_meaning.specs.Expressions.{ref_expr, flat, BExprs, Nil, More}
+use Rattle.sql_meaning.specs.Expressions.{ref_expr, flat, BExprs, Nil, More, Any}
 use Rattle.sql_meaning.specs.Orders.{same_site, same_collation}
 use Rattle.sql_meaning.specs.Values.{Affinity, Integer, Real, Numeric, TextAffinity, BlobAffinity}
-use Rattle.sql_meaning.specs.Values.{Collation}
+use Rattle.sql_meaning.specs.Values.{Collation, Binary}
 use Rattle.sql_meaning.specs.Schemas.{Schema, columns_of}
 use Rattle.sql_meaning.specs.Items.{Item, own_column}
 use Rattle.sql_meaning.specs.Rows.{Site, AtRowid, AtColumn}
@@ -19,8 +19,8 @@ use Rattle.sql_meaning.specs.Terms.{Equals, Term, TermKind, Within, IsNothing, L
 use Rattle.sql_meaning.specs.Statements.{is_empty, Bound, exprs_of, numbers_from, table_of}
 use Rattle.sql_meaning.specs.Statements.{Conjunct, item_alias}
 use Rattle.sql_meaning.specs.Serving.{key_under, comparison_served, direct_terms, serving}
-use Rattle.sql_meaning.specs.Serving.{numbered_term}
-use Rattle.sql_meaning.specs.Conjuncts.{may_derive}
+use Rattle.sql_meaning.specs.Serving.{numbered_term, Served}
+use Rattle.sql_meaning.specs.Conjuncts.{may_derive, may_serve}
 use Rattle.sql_meaning.specs.OrderState.{columns_at}
 use Rattle.sql_meaning.specs.Choices.{ColumnTerms, Offer, rowid_offer, seek_offer}
 
@@ -209,6 +209,53 @@ branch_column schema bound c item number es site = record {
 abbrev pub branch_terms : Schema → Bound → Conjunct → ℕ → ℕ → BExpr → List ColumnTerms
 branch_terms schema bound c item number e =
     map (branch_column schema bound c item number (flat e)) (all_sites schema bound item)
+
+abbrev pub has_terms : List ColumnTerms → Bool
+has_terms [] = false
+has_terms (c ∷ cs) =
+    not (length (c.equals ++ (c.lows ++ c.highs)) == 0) || has_terms cs
+
+-- an OR with the terms of each of its branches
+pub record OrTerm : Type 0 where
+  pub conjunct : ℕ
+  pub branches : List (List ColumnTerms)
+
+abbrev pub if_each_has_terms : List ColumnTerms → Option (List (List ColumnTerms))
+    → Option (List (List ColumnTerms))
+if_each_has_terms terms None = None
+if_each_has_terms terms (Some others) = cond (has_terms terms) (Some (terms ∷ others)) None
+
+abbrev pub terms_of_branches : Schema → Bound → Conjunct → ℕ → ℕ → BExprs
+    → Option (List (List ColumnTerms))
+terms_of_branches schema bound c item number Nil = Some []
+terms_of_branches schema bound c item number (More e es) =
+    if_each_has_terms (branch_terms schema bound c item number e)
+    (terms_of_branches schema bound c item number es)
+
+abbrev pub or_term : ℕ → Option (List (List ColumnTerms)) → List OrTerm
+or_term number None = []
+or_term number (Some branches) = record { conjunct = number; branches = branches } ∷ []
+
+abbrev pub unless_served : Option Served → List OrTerm → List OrTerm
+unless_served None terms = terms
+unless_served (Some served) terms = []
+
+-- an OR is an OR term of the item where it is no IN term of it and each branch has a term
+abbrev pub or_terms_of : Schema → Bound → Conjunct → ℕ → ℕ → BExpr → List OrTerm
+or_terms_of schema bound c item number (Any es) =
+    unless_served (serving (λ site. Binary) item (Any es))
+    (or_term number (terms_of_branches schema bound c item number es))
+or_terms_of schema bound c item number e = []
+
+abbrev pub or_terms_from : Schema → Bound → ℕ → ℕ → List Conjunct → List OrTerm
+or_terms_from schema bound item number [] = []
+or_terms_from schema bound item number (c ∷ cs) =
+    cond (may_serve bound item c) (or_terms_of schema bound c item number c.expr) []
+    ++ or_terms_from schema bound item (suc number) cs
+
+-- the OR terms of an item, by conjunct number
+abbrev pub or_terms : Schema → Bound → ℕ → List OrTerm
+or_terms schema bound item = or_terms_from schema bound item 0 bound.conjuncts
 
 -- the offer is a seek with the terms of this branch alone: by rowid, or by an index
 abbrev pub OffersBranch : Schema → Bound → Conjunct → List ℕ → ℕ → ℕ → BExpr → Offer → Type 0
