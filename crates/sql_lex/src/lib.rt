@@ -21,3 +21,6 @@ pub use sql_tokens::{
     Symbol, Terminal, Token, TokenKind, Tokens, lex, terminal_at, token_text, token_value,
 };
 pub use statement_runs::{Span, Spans, statements};
+
+#[cfg(test)]
+mod tests;
