@@ -11,7 +11,7 @@ use Rattle.sql_meaning.specs.Statements.{image}
 use Rattle.sql_meaning.specs.UsedTerms.{AllOf}
 use Rattle.sql_meaning.specs.Offers.{FitsOffers}
 use Rattle.sql_meaning.specs.OrderState.{FitsOrder}
-use Rattle.sql_meaning.proofs.Choices.{scan_offer}
+use Rattle.sql_meaning.proofs.OfferedPaths.{scan_offer}
 use Rattle.sql_meaning.proofs.Asked.{offered_plans_mean}
 use Rattle.expert_main.specs.Forms.{Scan}
 use Rattle.expert_main.specs.Report.{report_of}
