@@ -1,8 +1,8 @@
 -- Conversion keeps the bounds of values.
-use Rattle.std.proofs.Common.{◌≡◌, ℕ, zero, suc, ◌+◌, ◌*◌, ◌/◌, ◌%◌, ◌^◌, ◌<◌, ℤ, pos, negsuc}
-use Rattle.std.proofs.Common.{neg_ℤ, ◌*ℤ◌, unsigned_abs, int_div, int_rem, Bool, true, false, ◌&&◌}
+use Rattle.std.proofs.Common.{◌≡◌, ℕ, suc, ◌/◌, ◌%◌, ◌^◌, ◌<◌, ℤ, pos, negsuc}
+use Rattle.std.proofs.Common.{◌*ℤ◌, unsigned_abs, int_div, int_rem, Bool, true, false}
 use Rattle.std.proofs.Common.{◌==◌, nat_lt, if◌then◌else◌, List, [], ◌∷◌, ◌++◌, Option, Some, None}
-use Rattle.std.proofs.Common.{refl, ap, arith, decimal}
+use Rattle.std.proofs.Common.{refl, arith, decimal}
 use Rattle.std.specs.Char.{is_ascii_digit}
 use Rattle.std.specs.Fmt.{signed_decimal, sign_text}
 use Rattle.std.specs.Int.{is_negative}
@@ -12,7 +12,7 @@ use Rattle.std.proofs.lemmas.Bool.{ltb-true}
 use Rattle.std.proofs.lemmas.Int.{unsigned_abs-mul}
 use Rattle.sql_meaning.specs.Values.{Value, Null, Int, Dec, Text, Blob, Affinity, Integer, Real}
 use Rattle.sql_meaning.specs.Values.{Numeric, TextAffinity, BlobAffinity, IsI64, IsBytes, IsValue}
-use Rattle.sql_meaning.specs.Numbers.{read_number, dec_text, fraction_text, signed}
+use Rattle.sql_meaning.specs.Numbers.{read_number, dec_text, fraction_text}
 use Rattle.sql_meaning.specs.Conversions.{with_text_read, narrowed, widened, written, converted}
 use Rattle.sql_meaning.proofs.Reading.{sound, read_is_value, of_decimal, of_fraction, and_left}
 use Rattle.sql_meaning.proofs.Reading.{and_right, signed_size}

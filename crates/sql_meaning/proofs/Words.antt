@@ -1,5 +1,5 @@
 -- Where a word stands in a text.
-use Rattle.std.proofs.Common.{◌≡◌, ℕ, ◌<◌, Bool, true, false, ◌&&◌, ◌||◌, ◌==◌, ◌↔◌, List, [], ◌∷◌}
+use Rattle.std.proofs.Common.{◌≡◌, ℕ, ◌<◌, Bool, true, false, ◌||◌, ◌==◌, ◌↔◌, List, [], ◌∷◌}
 use Rattle.std.proofs.Common.{◌++◌, length, refl, ap, ap₂, arith}
 use Rattle.sql_meaning.specs.DeclaredTypes.{begins_with, holds_word}
 use Rattle.sql_meaning.proofs.Reading.{and_left, and_right}

@@ -1,4 +1,4 @@
--- What becomes of a value in a column, and of the two sides of a comparison.
+-- What becomes of a value in a column, and of the two sides of a comparison (datatype3, 3 and 4.2).
 use Rattle.std.specs.Prelude.{◌≡◌, ◌^◌, pos, nat_abs, ◌*ℤ◌, int_div, int_rem, Bool, true, false}
 use Rattle.std.specs.Prelude.{not, ◌&&◌, ◌==◌, nat_lt, if◌then◌else◌, Option, Some, None, unwrap_or}
 use Rattle.std.specs.Fmt.{signed_decimal}

@@ -1,4 +1,4 @@
--- The affinity of a column, by its declared type.
+-- The affinity of a column, by its declared type (datatype3, 3.1).
 use Rattle.std.specs.Prelude.{ℕ, Bool, true, false, ◌&&◌, ◌||◌, ◌==◌, if◌then◌else◌, List, [], ◌∷◌}
 use Rattle.std.specs.Prelude.{length, codes}
 use Rattle.sql_meaning.specs.Letters.{folded_bytes}

@@ -1,4 +1,5 @@
--- Which texts read as numbers, and the texts of numbers.
+-- Which texts read as numbers, and the texts of numbers (datatype3, 3).
+-- Of bytes, 43 is a plus, 45 a minus, 46 a point, and 48 to 57 are the digits.
 use Rattle.std.specs.Prelude.{◌≡◌, ℕ, ◌+◌, ◌-◌, ◌*◌, ◌/◌, ◌%◌, ◌^◌, ◌<◌, ◌≤◌, ℤ, pos, neg_ℤ}
 use Rattle.std.specs.Prelude.{unsigned_abs, Bool, true, false, ◌&&◌, ◌==◌, nat_le, if◌then◌else◌}
 use Rattle.std.specs.Prelude.{List, [], ◌∷◌, ◌++◌, length, take, drop, position, Option, Some, None}

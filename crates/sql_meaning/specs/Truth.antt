@@ -1,4 +1,5 @@
--- The truth of a value as a condition: true, false or unknown.
+-- The truth of a value as a condition: true, false or unknown (lang_expr, "Boolean Expressions").
+-- Of bytes, 32 is a space, 43 a plus, 45 a minus, 46 a point, and 48 to 57 are the digits.
 use Rattle.std.specs.Prelude.{◌≡◌, ℕ, nat_abs, Bool, true, not, ◌&&◌, ◌||◌, ◌==◌, if◌then◌else◌}
 use Rattle.std.specs.Prelude.{List, [], ◌∷◌, ◌++◌, replicate, Option, Some, None}
 use Rattle.std.specs.Char.{is_ascii_digit}

@@ -1,4 +1,4 @@
--- Values of a row, a constant or a result, and their order.
+-- Values of a row, a constant or a result, and their order (datatype3, 2, 4.1 and 7).
 use Rattle.std.specs.Prelude.{◌≡◌, ℕ, ◌<◌, ◌^◌, ℤ, pos, negsuc, nat_abs, ◌*ℤ◌, Bool, true, false}
 use Rattle.std.specs.Prelude.{cond, ◌==◌, List, [], ◌∷◌, reverse}
 use Rattle.std.specs.declared.cmp.Ordering.{Ordering}
