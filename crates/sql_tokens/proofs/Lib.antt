@@ -1,1 +1,2 @@
 pub mod CutSteps
+pub mod TokenOrder

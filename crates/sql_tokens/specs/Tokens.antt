@@ -1,5 +1,5 @@
 -- The tokens of a text.
-use Rattle.std.specs.Prelude.{ℕ, zero, suc, ◌+◌, ◌-◌, ◌≤◌, Option, None, Some}
+use Rattle.std.specs.Prelude.{ℕ, zero, suc, ◌+◌, ◌-◌, ◌<◌, ◌≤◌, Option, None, Some}
 use Rattle.std.specs.Prelude.{List, [], ◌∷◌, ◌++◌}
 use Rattle.sql_tokens.specs.Pieces.{piece_at}
 use Rattle.sql_tokens.specs.declared.pieces.Piece.{Piece}
@@ -29,3 +29,8 @@ tokens_of text = tokens_from 0 0 text
 -- the token ends within so many bytes
 abbrev pub IsWithin : ℕ → Token → Type 0
 IsWithin n token = (token.start ≤ token.end) × (token.end ≤ n)
+
+-- tokens that lie one behind the other from this place to that one, none of them empty
+abbrev pub IsInOrder : ℕ → ℕ → List Token → Type 0
+IsInOrder from end [] = from ≤ end
+IsInOrder from end (t ∷ ts) = (from ≤ t.start) × (t.start < t.end) × IsInOrder t.end end ts

@@ -1,6 +1,6 @@
 //! Cuts a text into its tokens.
 ghost use Rattle.std.specs.Prelude.{◌≡◌, ℕ, ◌+◌, ◌<◌, ◌≤◌, ◌^◌, ◌++◌, length, All, IfOk};
-ghost use Rattle.sql_tokens.specs.Tokens.{tokens_of_piece, tokens_of, IsWithin};
+ghost use Rattle.sql_tokens.specs.Tokens.{tokens_of_piece, tokens_of, IsWithin, IsInOrder};
 
 use crate::pieces::{Piece, front_piece};
 use crate::runs::rest_from;
@@ -35,6 +35,7 @@ pub fn lex(alloc: Global, text: &[u8]) -> Result<Tokens, Memory>
     requires { length text.now < 2 ^ 32 }
     ensures same { IfOk result (λ tokens. tokens ≡ tokens_of text.now) }
     ensures within { IfOk result (All (IsWithin (length text.now))) }
+    ensures in_order { IfOk result (IsInOrder 0 (length text.now)) }
 {
     let mut tokens = Tokens::new(alloc);
     let mut start = 0;

@@ -63,9 +63,7 @@ fn decimal_of(whole: &[u8], fraction: &[u8]) -> Option<Number>
     if fraction.len() > 4 {
         return None;
     }
-    Some(Number::Dec(
-        number * 10000 + part * last_digit_units(fraction.len()),
-    ))
+    Some(Number::Dec(number * 10000 + part * last_digit_units(fraction.len())))
 }
 
 /// The number that the text of a number token writes. `None` where it is outside of what is

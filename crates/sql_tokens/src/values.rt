@@ -3,11 +3,10 @@ ghost use Rattle.std.specs.Prelude.{◌≡◌, ◌<◌, IfOk};
 ghost use Rattle.sql_tokens.specs.TokenValues.{undoubled, hex_digit, hex_bytes};
 ghost use Rattle.sql_tokens.specs.TokenValues.{quoted_value, blob_value, value_of};
 
-use sql_value::{Bytes, Memory};
-use std::alloc::Global;
-
 use crate::terminal::token_text;
 use crate::token::{Token, TokenKind};
+use sql_value::{Bytes, Memory};
+use std::alloc::Global;
 
 /// The bytes inside a quoted form, with each doubled quote made single.
 fn undoubled(alloc: Global, quote: u8, inside: &[u8]) -> Result<Bytes, Memory>

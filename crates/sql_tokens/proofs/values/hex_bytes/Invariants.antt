@@ -7,5 +7,5 @@ abbrev pub invariant-loop-digit : goal.invariant-loop-digit
 invariant-loop-digit l = record {
   small : IfSome l.high (λ high. high < 16);
   same :
-    l.bytes ++ hex_bytes_after l.high (drop l.digit-index l.digits) ≡ hex_bytes l.digits;
+      l.bytes ++ hex_bytes_after l.high (drop l.digit-index l.digits) ≡ hex_bytes l.digits;
 }
