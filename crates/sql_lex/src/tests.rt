@@ -15,7 +15,10 @@ const STATEMENTS: &[(&[u8], &[(u32, u32)])] = &[
     (b"a;", &[(0, 1)]),
     (b"a; b c ;; d", &[(0, 1), (2, 4), (6, 7)]),
     (b"CREATE TRIGGER x BEGIN a; b; END; c", &[(0, 9), (10, 11)]),
-    (b"create temp trigger x begin a; end ; c", &[(0, 8), (9, 10)]),
+    (
+        b"create temp trigger x begin a; end ; c",
+        &[(0, 8), (9, 10)],
+    ),
     (b"CREATE TEMPORARY TRIGGER x; y END; z", &[(0, 9)]),
     (b"CREATE TRIGGER x BEGIN a; b", &[(0, 7)]),
     (b"CREATE TABLE TRIGGER; a", &[(0, 3), (4, 5)]),
