@@ -6,8 +6,9 @@ use Rattle.std.proofs.lemmas.Bool.{eqb-true, eq-eqb}
 use Rattle.std.proofs.lemmas.List.Concat.{flat_map-append}
 use Rattle.std.proofs.lemmas.List.Sorted.{IsPermutation-sym}
 use Rattle.list_laws.specs.Tally.{tally}
-use Rattle.list_laws.specs.Nest.{kept, nested, product, Distinct, Inside, Apart, Rearranges}
-use Rattle.list_laws.specs.Nest.{IsPartOf, same, next, swapped, after}
+use Rattle.list_laws.specs.Nest.{Distinct, Apart, Rearranges, same, next, swapped, after}
+use Rattle.list_laws.proofs.Bools.{or_false_right, or_false_left, or_later, and_left, and_right}
+use Rattle.list_laws.proofs.Bools.{or_cases, cond_same}
 use Rattle.list_laws.proofs.Lists.{all_map, flat_map_same}
 use Rattle.list_laws.proofs.Nests.{all_reorders}
 use Rattle.list_laws.proofs.Arrangements.{Rearranges-from_permutation}
