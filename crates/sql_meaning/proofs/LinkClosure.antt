@@ -59,10 +59,7 @@ add_true : (c : ColumnRef) (b : Bool) (seen : List ColumnRef) → b ≡ true
     → has_ref c (add_if b c seen) ≡ true
 add_true c b seen h = rw h (added c (has_ref c seen) seen refl)
 
--- one of its ends is reached and the other is not
-abbrev IsHalf : List ColumnRef → Pair → Type 0
-IsHalf seen p = (has_ref p.first seen || has_ref p.second seen) ≡ true
-
+-- where one end is reached, its turn in a pass reaches both
 both_reached : (p : Pair) (seen : List ColumnRef) (a b : Bool) → has_ref p.first seen ≡ a
     → has_ref p.second seen ≡ b → (a || b) ≡ true
     → let after : List ColumnRef =

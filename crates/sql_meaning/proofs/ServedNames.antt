@@ -46,11 +46,6 @@ pub record NamesItem (item : ℕ) (placed named : List ℕ) : Type 0 where
 itself : (item : ℕ) (ns : List ℕ) → has_number item (item ∷ ns) ≡ true
 itself item ns = rw (eq-eqb item item refl) refl
 
-pub all_inside : (ns ms : List ℕ) → AllByRecursion (λ i. has_number i ms ≡ true) ns
-    → all_in ns ms ≡ true
-all_inside [] ms h = refl
-all_inside (n ∷ ns) ms h = both_true _ _ h.0 (all_inside ns ms h.1)
-
 placed_inside : (item : ℕ) (placed ns : List ℕ)
     → AllByRecursion (λ i. has_number i placed ≡ true) ns → all_in ns (item ∷ placed) ≡ true
 placed_inside item placed [] h = refl

@@ -40,10 +40,14 @@ abbrev pub first_held : List EqPart → Bool
 first_held [] = false
 first_held (p ∷ ps) = is_one_key p
 
+-- the rowid rises along a table, and among entries of an index that tie
+abbrev pub rowid_position : Bool → Position
+rowid_position held =
+    record { site = AtRowid; collation = Binary; falling = false; held = held }
+
 -- the index's columns, then the rowid; after the alias nothing varies any more
 abbrev pub index_positions : Option ℕ → List IndexColumn → List EqPart → List Position
-index_positions alias [] eqs =
-    record { site = AtRowid; collation = Binary; falling = false; held = false } ∷ []
+index_positions alias [] eqs = rowid_position false ∷ []
 index_positions alias (c ∷ cs) eqs =
     record {
       site = column_site alias c.column;
@@ -58,12 +62,9 @@ columns_at (Some index) = index.columns
 
 -- the columns that a path walks in order
 abbrev pub positions : Schema → Option ℕ → Path → List Position
-positions schema alias TableScan =
-    record { site = AtRowid; collation = Binary; falling = false; held = false } ∷ []
-positions schema alias (RowidEq part) =
-    record { site = AtRowid; collation = Binary; falling = false; held = is_one_key part } ∷ []
-positions schema alias (RowidRange low high) =
-    record { site = AtRowid; collation = Binary; falling = false; held = false } ∷ []
+positions schema alias TableScan = rowid_position false ∷ []
+positions schema alias (RowidEq part) = rowid_position (is_one_key part) ∷ []
+positions schema alias (RowidRange low high) = rowid_position false ∷ []
 positions schema alias (IndexScan index) =
     index_positions alias (columns_at (slice_get schema.indexes index)) []
 positions schema alias (IndexSeek index eqs low high) =
