@@ -1,4 +1,4 @@
-//! Laws of conditions, each on a function that does nothing.
+//! Laws of conditions (SQLite's lang_expr and optoverview), each on a function that does nothing.
 
 ghost use Rattle.sql_meaning.specs.ConditionLaws.{ConjunctsSayTheirConditions, ValuesDependOnNamedItems};
 

@@ -1,4 +1,4 @@
-//! Laws of terms, each on a function that does nothing.
+//! Laws of terms (SQLite's optoverview), each on a function that does nothing.
 
 ghost use Rattle.sql_meaning.specs.TermLaws.{DerivedTermsHold, LinkedColumnsAreEqual};
 ghost use Rattle.sql_meaning.specs.TermLaws.{ListsHaveTheLinkedColumns, ServingIsExact};

@@ -1,5 +1,5 @@
-//! Laws of plans, each on a function that does nothing. They hold on every database of the schema,
-//! its indexes kept true, and for all parameters.
+//! Laws of plans (SQLite's eqp, lang_select and optoverview), each on a function that does nothing.
+//! They hold on every database of the schema, its indexes kept true, and for all parameters.
 
 ghost use Rattle.sql_meaning.specs.PlanLaws.{BlocksLeaveOutWhatFails, LoopsGiveTheRows};
 ghost use Rattle.sql_meaning.specs.PlanLaws.{OfferedPlansMean, PlansGiveTheOrder};

@@ -1,5 +1,5 @@
-//! Laws of the choice of terms, each on a function that does nothing: what is chosen is an offer, so
-//! the laws of walks and plans hold of it.
+//! Laws of the choice of terms (SQLite's optoverview and queryplanner), each on a function that does
+//! nothing: what is chosen is an offer, so the laws of walks and plans hold of it.
 
 ghost use Rattle.sql_meaning.specs.ChoiceLaws.{IndexScansAreOffers, IndexSeeksAreOffers};
 ghost use Rattle.sql_meaning.specs.ChoiceLaws.{RowidSeeksAreOffers, TableScansAreOffers, UnionsAreOffers};

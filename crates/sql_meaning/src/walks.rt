@@ -1,5 +1,6 @@
-//! Laws of paths and their walks, each on a function that does nothing. They hold on every database
-//! of the schema, its indexes kept true; a placed item may have the missing row.
+//! Laws of paths and their walks (SQLite's eqp, queryplanner and fileformat2), each on a function that
+//! does nothing. They hold on every database of the schema, its indexes kept true; a placed item may
+//! have the missing row.
 
 ghost use Rattle.sql_meaning.specs.PathLaws.{ConsumedConjunctsHold, IndexListsAreSorted};
 ghost use Rattle.sql_meaning.specs.PathLaws.{UnionsHaveEachRowOnce, UnionsMissNoRow, WalksAreFilters};
