@@ -1,11 +1,11 @@
 -- What the objects in memory are seen as.
 use Rattle.std.specs.Prelude.{ℕ, ◌+◌, ◌-◌, ◌^◌, ◌≡◌, ◌<◌, ◌⊎◌, min, List, length, None, Contains}
-use Rattle.expert_io.specs.Told.{file_of}
+use Rattle.expert_io.specs.Told.{File, file_of}
 
 -- files in memory; `left` is what reads of the file that was opened last will still give, `calls`
 -- the calls so far
 pub record Shelved : Type 0 where
-  pub files : List (List ℕ × List ℕ)
+  pub files : List File
   pub failing : List ℕ
   pub most : ℕ
   pub left : List ℕ

@@ -44,7 +44,8 @@ impl Model for MemoryShelf {
 // The place of the first file of a name.
 fn place_of(files: &Files, name: &[u8]) -> Option<usize>
     ensures { MatchOption result (file_of files.now name.now ≡ None)
-        (λ i. (i < length files.now) × (file_of files.now name.now ≡ Some (left_of files.now (Some i) 0))) }
+        (λ i. (i < length files.now)
+        × (file_of files.now name.now ≡ Some (left_of files.now (Some i) 0))) }
 {
     let all = files.as_slice();
     for (i, file) in all.iter().enumerate() {
@@ -113,15 +114,20 @@ impl Shelf for MemoryShelf {
         ensures files { Some self.new.files ≡ Some self.old.files }
         ensures opened { OnOk result (IfSome (Some self.old.files) (λ told. (bytes : List ℕ)
             × (file_of told name.now ≡ Some bytes) × (Some self.new.left ≡ Some bytes))) }
-        ensures closed { OnErr result (IfSome (Some self.old.files) (λ _. Some self.new.left ≡ Some [])) }
+        ensures closed { OnErr result (IfSome (Some self.old.files)
+            (λ _. Some self.new.left ≡ Some [])) }
         ensures later { self.old.faults ≤ self.new.faults }
         ensures kept { OnOk result (self.new.faults ≡ self.old.faults) }
-        ensures lacks { Lacks (Some self.old.files) name.now → IsErr result × (self.new.faults ≡ self.old.faults) }
-        ensures failed { OnErr result (Lacks (Some self.old.files) name.now ⊎ Rose self.old.faults self.new.faults) }
+        ensures lacks { Lacks (Some self.old.files) name.now → IsErr result
+            × (self.new.faults ≡ self.old.faults) }
+        ensures failed { OnErr result (Lacks (Some self.old.files) name.now
+            ⊎ Rose self.old.faults self.new.faults) }
 
         // It fails exactly at a listed call and where no file has the name.
-        ensures exactly { IsErr result ↔ ((file_of self.old.files name.now ≡ None) ⊎ IsListed self.old.calls self.old.failing) }
-        ensures fault { IsErr result → IsSome (file_of self.old.files name.now) → self.new.faults ≡ raised self.old.faults }
+        ensures exactly { IsErr result ↔ ((file_of self.old.files name.now ≡ None)
+            ⊎ IsListed self.old.calls self.old.failing) }
+        ensures fault { IsErr result → IsSome (file_of self.old.files name.now)
+            → self.new.faults ≡ raised self.old.faults }
         ensures call { self.new.calls ≡ raised self.old.calls }
     {
         self.calls = self.calls.saturating_add(1);
@@ -147,7 +153,8 @@ impl Shelf for MemoryShelf {
 
         // It fails exactly at a listed call, and gives as much as the buffer, the file and the bound allow.
         ensures exactly { IsErr result ↔ IsListed self.old.calls self.old.failing }
-        ensures gives { IfOk result (λ n. n ≡ min (min (length buf.new) (length self.old.left)) self.old.most) }
+        ensures gives { IfOk result
+            (λ n. n ≡ min (min (length buf.new) (length self.old.left)) self.old.most) }
         ensures fault { OnErr result (self.new.faults ≡ raised self.old.faults) }
         ensures call { self.new.calls ≡ raised self.old.calls }
     {

@@ -34,14 +34,16 @@ impl Model for MemorySink {
       faults = s.faults;
     } };
 
-    ghost invariant = { λ s. (s.room ≤ vec_capacity s.held) × (vec_len s.held ≤ s.room) × (1 ≤ s.most) };
+    ghost invariant = { λ s. (s.room ≤ vec_capacity s.held) × (vec_len s.held ≤ s.room)
+        × (1 ≤ s.most) };
 }
 
 impl MemorySink {
     /// An empty sink with room for so many bytes, which it takes here and now.
     pub fn new(alloc: Global, room: u64, failing: Calls, most: u64) -> Result<MemorySink, Memory>
         requires { 1 ≤ most }
-        ensures { IfOk result (λ sink. sink ≡ record { written = []; room = room; failing = failing; most = most; calls = 0; faults = 0 }) }
+        ensures { IfOk result
+            (λ sink. sink ≡ record { written = []; room = room; failing = failing; most = most; calls = 0; faults = 0 }) }
     {
         match Vec::with_capacity(alloc, room as usize) {
             Ok(held) => Ok(MemorySink {
@@ -78,7 +80,8 @@ impl Sink for MemorySink {
         // It fails exactly at a listed call, and where a piece that is not empty finds no room.
         ensures exactly { IsErr result ↔ (IsListed self.old.calls self.old.failing
             ⊎ ((length self.old.written ≡ self.old.room) × (0 < length piece.now))) }
-        ensures takes { IfOk result (λ n. n ≡ min (min (length piece.now) (self.old.room - length self.old.written)) self.old.most) }
+        ensures takes { IfOk result
+            (λ n. n ≡ min (min (length piece.now) (self.old.room - length self.old.written)) self.old.most) }
         ensures fault { OnErr result (self.new.faults ≡ raised self.old.faults) }
         ensures call { self.new.calls ≡ raised self.old.calls }
     {

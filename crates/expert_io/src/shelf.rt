@@ -4,7 +4,7 @@ ghost use Rattle.std.specs.declared.option.Option.{Option};
 ghost use Rattle.std.specs.Io.{ReadsAtMost};
 ghost use Rattle.std.specs.Io.KnownBytes.{Consumes, IsAtEnd, ReadConsumes};
 ghost use Rattle.expert_io.specs.Faults.{Rose, HasCause};
-ghost use Rattle.expert_io.specs.Told.{file_of, Lacks};
+ghost use Rattle.expert_io.specs.Told.{File, file_of, Lacks};
 
 use crate::sink::Failed;
 use sql_value::Bytes;
@@ -16,7 +16,7 @@ const PIECE: u64 = 4096;
 /// Named files, of which one is open at a time.
 pub trait Shelf {
     // The files by name, where they are told. No call changes them.
-    ghost files: { Self → Option (List (List ℕ × List ℕ)) };
+    ghost files: { Self → Option (List File) };
 
     // What reads of the file that was opened last will still give, where it is told.
     ghost left: { Self → Option (List ℕ) };
@@ -33,8 +33,10 @@ pub trait Shelf {
         ensures closed { OnErr result (IfSome (files self.old) (λ _. left self.new ≡ Some [])) }
         ensures later { faults self.old ≤ faults self.new }
         ensures kept { OnOk result (faults self.new ≡ faults self.old) }
-        ensures lacks { Lacks (files self.old) name.now → IsErr result × (faults self.new ≡ faults self.old) }
-        ensures failed { OnErr result (Lacks (files self.old) name.now ⊎ Rose (faults self.old) (faults self.new)) };
+        ensures lacks { Lacks (files self.old) name.now → IsErr result
+            × (faults self.new ≡ faults self.old) }
+        ensures failed { OnErr result (Lacks (files self.old) name.now
+            ⊎ Rose (faults self.old) (faults self.new)) };
 
     /// Moves the next bytes of the open file into the front of the buffer and answers how many: 0 for a
     /// buffer that is not empty says that the file ends here. It fails by a fault alone.
@@ -59,11 +61,15 @@ pub enum ReadFault {
 // What is left of the open file, if it has at most `limit` bytes.
 fn read_left<F: Shelf>(alloc: Global, shelf: &mut F, limit: u64) -> Result<Bytes, ReadFault>
     ensures files { F.files shelf.new ≡ F.files shelf.old }
-    ensures ok { IfOk result (λ bytes. IfSome (F.left shelf.old) (λ all. bytes ≡ all) × (length bytes ≤ limit)) }
-    ensures too_large { IsErrOf result ReadFault.TooLarge → IfSome (F.left shelf.old) (λ all. limit < length all) }
+    ensures ok { IfOk result (λ bytes. IfSome (F.left shelf.old) (λ all. bytes ≡ all)
+        × (length bytes ≤ limit)) }
+    ensures too_large { IsErrOf result ReadFault.TooLarge → IfSome (F.left shelf.old)
+        (λ all. limit < length all) }
     ensures later { F.faults shelf.old ≤ F.faults shelf.new }
-    ensures failed_only { IsErrOf result ReadFault.Failed → Rose (F.faults shelf.old) (F.faults shelf.new) }
-    ensures failed_always { F.faults shelf.old < F.faults shelf.new → IsErrOf result ReadFault.Failed }
+    ensures failed_only { IsErrOf result ReadFault.Failed
+        → Rose (F.faults shelf.old) (F.faults shelf.new) }
+    ensures failed_always { F.faults shelf.old < F.faults shelf.new
+        → IsErrOf result ReadFault.Failed }
 {
     let mut bytes = Bytes::new(alloc);
     let mut room = limit;
@@ -98,16 +104,19 @@ pub fn read_file<F: Shelf>(
 ) -> Result<Bytes, ReadFault>
     ensures files { F.files shelf.new ≡ F.files shelf.old }
     ensures ok { IfOk result (λ bytes. length bytes ≤ limit) }
-    ensures told { IfOk result (λ bytes. IfSome (F.files shelf.old) (λ told. file_of told name.now ≡ Some bytes)) }
+    ensures told { IfOk result (λ bytes. IfSome (F.files shelf.old)
+        (λ told. file_of told name.now ≡ Some bytes)) }
 
     ensures later { F.faults shelf.old ≤ F.faults shelf.new }
-    ensures failed_always { F.faults shelf.old < F.faults shelf.new → IsErrOf result ReadFault.Failed }
+    ensures failed_always { F.faults shelf.old < F.faults shelf.new
+        → IsErrOf result ReadFault.Failed }
     ensures lacks { Lacks (F.files shelf.old) name.now → IsErrOf result ReadFault.Failed }
     ensures failed_only { IsErrOf result ReadFault.Failed →
         Lacks (F.files shelf.old) name.now ⊎ Rose (F.faults shelf.old) (F.faults shelf.new) }
 
     ensures too_large_only { IsErrOf result ReadFault.TooLarge →
-        IfSome (F.files shelf.old) (λ told. (bytes : List ℕ) × (file_of told name.now ≡ Some bytes) × (limit < length bytes)) }
+        IfSome (F.files shelf.old) (λ told. (bytes : List ℕ)
+        × (file_of told name.now ≡ Some bytes) × (limit < length bytes)) }
 {
     match shelf.open_file(name) {
         Ok(()) => read_left(alloc, shelf, limit),

@@ -18,6 +18,7 @@ use Rattle.expert_main.specs.Report.{report_of}
 use Rattle.expert_main.specs.Run.{run, scanned, ReportsScan}
 use Rattle.expert_main.specs.Scanning.{schema_of, statement_of, plan_of, all_columns, column_numbers}
 use Rattle.expert_main.specs.Scanning.{MeansItsStatement}
+use Rattle.expert_io.specs.Told.{File}
 
 loops_are_offers : (scan : Scan) → FitsOffers (schema_of scan) (plan_of scan)
 loops_are_offers scan = record {
@@ -61,7 +62,7 @@ meant : (out : List ℕ) (found : Option Scan) → IsSomeAnd found (λ scan. out
 meant out None h = h
 meant out (Some scan) h = (h, means_its_statement scan)
 
-pub reported_means : (told : Option (List (List ℕ × List ℕ))) (words : List (List ℕ))
+pub reported_means : (told : Option (List File)) (words : List (List ℕ))
     → IfSome told (λ files. ReportsScan words files (run words files).out)
     → IfSome told (λ files. IsSomeAnd (scanned words files)
     (λ scan. ((run words files).out ≡ report_of scan.table) × MeansItsStatement scan))

@@ -25,7 +25,8 @@ line_of Memory = memory_line
 
 -- a line was written, or a proper prefix of it where the sink had a fault
 abbrev pub WritesLine : Option (List ℕ) → Option (List ℕ) → ℕ → ℕ → List ℕ → Type 0
-WritesLine old new before now line = Appends old new line ⊎ (AppendsProperPrefix old new line × Rose before now)
+WritesLine old new before now line = Appends old new line ⊎ (AppendsProperPrefix old new line
+    × Rose before now)
 
 -- the program answered and wrote what it does over these files; `old` and `new` are what the sinks held, where they tell it
 pub record Gives (ran : Ran) (status : ℕ) (out_old out_new err_old err_new : Option (List ℕ)) : Type 0 where

@@ -2,7 +2,7 @@
 use Rattle.std.specs.Prelude.{ℕ, ◌≡◌, ◌||◌, IsSomeAnd, List, [], ◌∷◌, length, nat_lt, None, Some, if◌then◌else◌, codes}
 use Rattle.std.specs.declared.option.Option.{Option}
 use Rattle.std.specs.Str.{bytes_eq}
-use Rattle.expert_io.specs.Told.{file_of}
+use Rattle.expert_io.specs.Told.{File, file_of}
 use Rattle.expert_main.specs.Lines.{usage_line, not_built_line, cannot_read_line}
 use Rattle.expert_main.specs.Forms.{Scan, scan_of}
 use Rattle.expert_main.specs.Report.{report_of}
@@ -46,26 +46,26 @@ abbrev pub run_database : Command → Option (List ℕ) → Ran
 run_database command None = refused 4 (cannot_read_line command.database)
 run_database command (Some database) = run_texts command.script database
 
-abbrev pub run_command : List (List ℕ × List ℕ) → Option Command → Ran
+abbrev pub run_command : List File → Option Command → Ran
 run_command files None = refused 1 usage_line
 run_command files (Some command) = run_database command (file_of files command.database)
 
 -- what the program does with its words, over these files
-abbrev pub run : List (List ℕ) → List (List ℕ × List ℕ) → Ran
+abbrev pub run : List (List ℕ) → List File → Ran
 run words files = run_command files (command_of words)
 
 abbrev pub scanned_in : Command → Option (List ℕ) → Option Scan
 scanned_in command None = None
 scanned_in command (Some database) = scan_of command.script database
 
-abbrev pub scanned_by : List (List ℕ × List ℕ) → Option Command → Option Scan
+abbrev pub scanned_by : List File → Option Command → Option Scan
 scanned_by files None = None
 scanned_by files (Some command) = scanned_in command (file_of files command.database)
 
 -- the scan on which the program reports
-abbrev pub scanned : List (List ℕ) → List (List ℕ × List ℕ) → Option Scan
+abbrev pub scanned : List (List ℕ) → List File → Option Scan
 scanned words files = scanned_by files (command_of words)
 
 -- what was written is the report on that scan
-abbrev pub ReportsScan : List (List ℕ) → List (List ℕ × List ℕ) → List ℕ → Type 0
+abbrev pub ReportsScan : List (List ℕ) → List File → List ℕ → Type 0
 ReportsScan words files out = IsSomeAnd (scanned words files) (λ scan. out ≡ report_of scan.table)

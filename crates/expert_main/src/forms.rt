@@ -159,7 +159,8 @@ fn created_table<'a>(
     requires { All (IsWithin (length text.now)) tokens.now }
     ensures { IfOk result (λ found. MatchOption found
         (table_in (map (mark_of text.now) tokens.now) ≡ None)
-        (λ name. IfSome (table_in (map (mark_of text.now) tokens.now)) (λ scan. scan.table ≡ name.now)
+        (λ name. IfSome (table_in (map (mark_of text.now) tokens.now))
+        (λ scan. scan.table ≡ name.now)
         × IsSome (table_in (map (mark_of text.now) tokens.now)))) }
 {
     let [create, table, name, open, ..] = tokens else {

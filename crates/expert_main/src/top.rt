@@ -33,28 +33,36 @@ fn prepare<'a, F: Shelf>(
 ) -> Result<Bytes, Refusal<'a>>
     ensures answered { IfOk result (λ report. IfSome (F.files shelf.old) (λ files.
         run words.now files ≡ answered report)) }
-    ensures refused { IfErr result (λ refusal. status_of refusal ≡ 2 → IfSome (F.files shelf.old) (λ files.
+    ensures refused { IfErr result (λ refusal. status_of refusal ≡ 2 → IfSome (F.files shelf.old)
+        (λ files.
         run words.now files ≡ refused 2 not_built_line)) }
     ensures known { IfErr result (λ refusal. status_of refusal ≢ 5) }
-    ensures told { IfErr result (λ refusal. Stood (F.faults shelf.old) (F.faults shelf.new) → status_of refusal ≢ 6 →
-        IfSome (F.files shelf.old) (λ files. run words.now files ≡ refused (status_of refusal) (line_of refusal))) }
+    ensures told { IfErr result (λ refusal. Stood (F.faults shelf.old) (F.faults shelf.new)
+        → status_of refusal ≢ 6 →
+        IfSome (F.files shelf.old)
+        (λ files. run words.now files ≡ refused (status_of refusal) (line_of refusal))) }
     ensures read { IfOk result (λ report. (database : List ℕ)
         × (run words.now ((database_of words.now, database) ∷ []) ≡ answered report)) }
 
     ensures command { OnOk result (IsSome (command_of words.now)) }
-    ensures usage { IfErr result (λ refusal. (status_of refusal ≡ 1) ↔ (command_of words.now ≡ None)) }
+    ensures usage { IfErr result
+        (λ refusal. (status_of refusal ≡ 1) ↔ (command_of words.now ≡ None)) }
 
-    ensures scanned { IfOk result (λ report. IfSome (F.files shelf.old) (λ files. ReportsScan words.now files report)) }
+    ensures scanned { IfOk result (λ report. IfSome (F.files shelf.old)
+        (λ files. ReportsScan words.now files report)) }
 
     ensures kept { OnOk result (F.faults shelf.new ≡ F.faults shelf.old) }
     ensures read_only { IfErr result (λ refusal. status_of refusal ≡ 4 →
-        Lacks (F.files shelf.old) (database_of words.now) ⊎ Rose (F.faults shelf.old) (F.faults shelf.new)) }
-    ensures read_always { IfErr result (λ refusal. F.faults shelf.old < F.faults shelf.new → status_of refusal ≡ 4) }
+        Lacks (F.files shelf.old) (database_of words.now)
+        ⊎ Rose (F.faults shelf.old) (F.faults shelf.new)) }
+    ensures read_always { IfErr result (λ refusal. F.faults shelf.old < F.faults shelf.new
+        → status_of refusal ≡ 4) }
     ensures read_lacks { IfErr result (λ refusal. status_of refusal ≢ 1 →
         Lacks (F.files shelf.old) (database_of words.now) → status_of refusal ≡ 4) }
     ensures found { OnOk result (¬ Lacks (F.files shelf.old) (database_of words.now)) }
 
-    ensures line { IfErr result (λ refusal. line_of refusal ≡ line_after (status_of refusal) words.now) }
+    ensures line { IfErr result
+        (λ refusal. line_of refusal ≡ line_after (status_of refusal) words.now) }
 {
     let command = match read_words(words) {
         Some(command) => command,
@@ -86,39 +94,49 @@ fn attempt<'a, F: Shelf, O: Sink>(
     shelf: &mut F,
     out: &mut O,
 ) -> Result<(), Refusal<'a>>
-    ensures answered { OnOk result (IfSome (F.files shelf.old) (λ files. ((run words.now files).status ≡ 0)
+    ensures answered { OnOk result (IfSome (F.files shelf.old)
+        (λ files. ((run words.now files).status ≡ 0)
         × Appends (O.written out.old) (O.written out.new) (run words.now files).out)) }
     ensures told { IfErr result (λ refusal. Stood (F.faults shelf.old) (F.faults shelf.new)
         → Stood (O.faults out.old) (O.faults out.new) → status_of refusal ≢ 6 →
-        IfSome (F.files shelf.old) (λ files. run words.now files ≡ refused (status_of refusal) (line_of refusal))) }
+        IfSome (F.files shelf.old)
+        (λ files. run words.now files ≡ refused (status_of refusal) (line_of refusal))) }
     ensures scanned { OnOk result (IfSome (F.files shelf.old) (λ files.
         ReportsScan words.now files (run words.now files).out)) }
-    ensures whole { OnOk result (IfSome (F.files shelf.old) (λ files. ((run words.now files).err ≡ []))) }
-    ensures refused { IfErr result (λ refusal. status_of refusal ≡ 2 → IfSome (F.files shelf.old) (λ files.
+    ensures whole { OnOk result (IfSome (F.files shelf.old)
+        (λ files. ((run words.now files).err ≡ []))) }
+    ensures refused { IfErr result (λ refusal. status_of refusal ≡ 2 → IfSome (F.files shelf.old)
+        (λ files.
         run words.now files ≡ refused 2 not_built_line)) }
     ensures read { OnOk result ((database : List ℕ)
         × ((run words.now ((database_of words.now, database) ∷ [])).status ≡ 0)
         × Appends (O.written out.old) (O.written out.new) (run words.now ((database_of words.now, database) ∷ [])).out) }
 
     ensures command { OnOk result (IsSome (command_of words.now)) }
-    ensures usage { IfErr result (λ refusal. (status_of refusal ≡ 1) ↔ (command_of words.now ≡ None)) }
+    ensures usage { IfErr result
+        (λ refusal. (status_of refusal ≡ 1) ↔ (command_of words.now ≡ None)) }
 
     ensures kept { OnOk result (F.faults shelf.new ≡ F.faults shelf.old) }
     ensures read_only { IfErr result (λ refusal. status_of refusal ≡ 4 →
-        Lacks (F.files shelf.old) (database_of words.now) ⊎ Rose (F.faults shelf.old) (F.faults shelf.new)) }
-    ensures read_always { IfErr result (λ refusal. F.faults shelf.old < F.faults shelf.new → status_of refusal ≡ 4) }
+        Lacks (F.files shelf.old) (database_of words.now)
+        ⊎ Rose (F.faults shelf.old) (F.faults shelf.new)) }
+    ensures read_always { IfErr result (λ refusal. F.faults shelf.old < F.faults shelf.new
+        → status_of refusal ≡ 4) }
     ensures read_lacks { IfErr result (λ refusal. status_of refusal ≢ 1 →
         Lacks (F.files shelf.old) (database_of words.now) → status_of refusal ≡ 4) }
     ensures found { OnOk result (¬ Lacks (F.files shelf.old) (database_of words.now)) }
 
     ensures written { OnOk result (O.faults out.new ≡ O.faults out.old) }
-    ensures write_only { IfErr result (λ refusal. status_of refusal ≡ 5 → Rose (O.faults out.old) (O.faults out.new)) }
-    ensures write_prefix { IfErr result (λ refusal. status_of refusal ≡ 5 → IfSome (F.files shelf.old) (λ files.
+    ensures write_only { IfErr result (λ refusal. status_of refusal ≡ 5
+        → Rose (O.faults out.old) (O.faults out.new)) }
+    ensures write_prefix { IfErr result (λ refusal. status_of refusal ≡ 5 →
+        IfSome (F.files shelf.old) (λ files.
         ((run words.now files).status ≡ 0)
         × AppendsProperPrefix (O.written out.old) (O.written out.new) (run words.now files).out)) }
     ensures out_unchanged { IfErr result (λ refusal. status_of refusal ≢ 5 → out.new ≡ out.old) }
 
-    ensures line { IfErr result (λ refusal. line_of refusal ≡ line_after (status_of refusal) words.now) }
+    ensures line { IfErr result
+        (λ refusal. line_of refusal ≡ line_after (status_of refusal) words.now) }
 {
     match prepare(alloc, words, shelf) {
         Ok(report) => match write_all(out, report.as_slice()) {
@@ -148,18 +166,24 @@ pub fn expert<F: Shelf, O: Sink, E: Sink>(
     err: &mut E,
 ) -> u8
     // The status and the bytes are the stated function of the words and the files.
-    ensures headline { Stood (F.faults shelf.old) (F.faults shelf.new) → Stood (O.faults out.old) (O.faults out.new)
-        → Stood (E.faults err.old) (E.faults err.new) → result ≢ 6 → IfSome (F.files shelf.old) (λ files.
+    ensures headline { Stood (F.faults shelf.old) (F.faults shelf.new)
+        → Stood (O.faults out.old) (O.faults out.new)
+        → Stood (E.faults err.old) (E.faults err.new) → result ≢ 6 → IfSome (F.files shelf.old)
+        (λ files.
         Gives (run words.now files) result (O.written out.old) (O.written out.new) (E.written err.old) (E.written err.new)) }
-    ensures answered { result ≡ 0 → IfSome (F.files shelf.old) (λ files. ((run words.now files).status ≡ 0)
+    ensures answered { result ≡ 0 → IfSome (F.files shelf.old)
+        (λ files. ((run words.now files).status ≡ 0)
         × Appends (O.written out.old) (O.written out.new) (run words.now files).out) }
-    ensures refused { result ≡ 2 → IfSome (F.files shelf.old) (λ files. run words.now files ≡ refused 2 not_built_line) }
-    ensures exactly { Stood (F.faults shelf.old) (F.faults shelf.new) → Stood (O.faults out.old) (O.faults out.new)
+    ensures refused { result ≡ 2 → IfSome (F.files shelf.old)
+        (λ files. run words.now files ≡ refused 2 not_built_line) }
+    ensures exactly { Stood (F.faults shelf.old) (F.faults shelf.new)
+        → Stood (O.faults out.old) (O.faults out.new)
         → result ≢ 6 → IfSome (F.files shelf.old) (λ files. result ≡ (run words.now files).status) }
     ensures known { (result ≤ 6) × (result ≢ 3) }
 
     // On every database of the schema the printed plan gives the rows that the statement asks for.
-    ensures meaning { result ≡ 0 → IfSome (F.files shelf.old) (λ files. IsSomeAnd (scanned words.now files) (λ scan.
+    ensures meaning { result ≡ 0 → IfSome (F.files shelf.old)
+        (λ files. IsSomeAnd (scanned words.now files) (λ scan.
         ((run words.now files).out ≡ report_of scan.table) × MeansItsStatement scan)) }
 
     // Over files that tell nothing of themselves too: what was written is the report on some bytes.
@@ -173,18 +197,21 @@ pub fn expert<F: Shelf, O: Sink, E: Sink>(
     ensures read_only { result ≡ 4 → Lacks (F.files shelf.old) (database_of words.now)
         ⊎ Rose (F.faults shelf.old) (F.faults shelf.new) }
     ensures read_always { F.faults shelf.old < F.faults shelf.new → result ≡ 4 }
-    ensures read_lacks { result ≢ 1 → Lacks (F.files shelf.old) (database_of words.now) → result ≡ 4 }
+    ensures read_lacks { result ≢ 1 → Lacks (F.files shelf.old) (database_of words.now)
+        → result ≡ 4 }
 
     // A report that can't be written: where, and only where, the count of `out` rose.
     ensures write_only { result ≡ 5 → Rose (O.faults out.old) (O.faults out.new) }
     ensures write_always { O.faults out.old < O.faults out.new → result ≡ 5 }
-    ensures write_prefix { result ≡ 5 → IfSome (F.files shelf.old) (λ files. ((run words.now files).status ≡ 0)
+    ensures write_prefix { result ≡ 5 → IfSome (F.files shelf.old)
+        (λ files. ((run words.now files).status ≡ 0)
         × AppendsProperPrefix (O.written out.old) (O.written out.new) (run words.now files).out) }
 
     // Nothing is written to `out` after any other status, and to `err` after 0.
     ensures out_unchanged { result ≢ 0 → result ≢ 5 → out.new ≡ out.old }
     ensures err_unchanged { result ≡ 0 → err.new ≡ err.old }
-    ensures err_line { result ≢ 0 → WritesLine (E.written err.old) (E.written err.new) (E.faults err.old) (E.faults err.new)
+    ensures err_line { result ≢ 0
+        → WritesLine (E.written err.old) (E.written err.new) (E.faults err.old) (E.faults err.new)
         (line_after result words.now) }
 {
     match attempt(alloc, words, shelf, out) {
