@@ -4,27 +4,20 @@ ghost use Rattle.sql_meaning.specs.TermLaws.{DerivedTermsHold, LinkedColumnsAreE
 ghost use Rattle.sql_meaning.specs.TermLaws.{ListsHaveTheLinkedColumns, ServingIsExact};
 ghost use Rattle.sql_meaning.specs.TermLaws.{TermsSayTheirConjuncts};
 
-/// A conjunct that serves a column is true exactly where its term is true of the column.
+/// A conjunct that serves a column is true exactly where its term is true of the column. And the
+/// function by which terms are listed answers exactly where a conjunct serves a column of the item,
+/// with that column and what the conjunct says of it.
 pub fn terms_say_their_conjuncts()
-    ensures { TermsSayTheirConjuncts }
-{}
-
-/// The function by which terms are listed answers exactly where a conjunct serves a column of the
-/// item, with that column and what the conjunct says of it.
-pub fn serving_is_exact()
-    ensures { ServingIsExact }
+    ensures same_truth { TermsSayTheirConjuncts }
+    ensures listed { ServingIsExact }
 {}
 
 /// Where the conjuncts hold, columns that they link are equal, under the collation that all of them
-/// own.
+/// own. And the columns that are listed as linked with a column are all those that links and chains of
+/// links join with it, and no others.
 pub fn linked_columns_are_equal()
-    ensures { LinkedColumnsAreEqual }
-{}
-
-/// The columns that are listed as linked with a column are all those that links and chains of links
-/// join with it, and no others.
-pub fn lists_have_the_linked_columns()
-    ensures { ListsHaveTheLinkedColumns }
+    ensures equal { LinkedColumnsAreEqual }
+    ensures listed { ListsHaveTheLinkedColumns }
 {}
 
 /// Where the common conjuncts hold, each derived equality holds. So a walk by it loses no row of an

@@ -13,22 +13,13 @@ mod values;
 mod walks;
 
 pub use conditions::{conjuncts_say_their_conditions, values_depend_on_named_items};
-pub use derivations::{
-    derived_terms_hold, linked_columns_are_equal, lists_have_the_linked_columns, serving_is_exact,
-    terms_say_their_conjuncts,
-};
+pub use derivations::{derived_terms_hold, linked_columns_are_equal, terms_say_their_conjuncts};
 pub use nested_loops::{
     blocks_leave_out_what_fails, loops_give_the_rows, offered_plans_mean, plans_give_the_order,
 };
-pub use offering::{
-    index_scans_are_offers, index_seeks_are_offers, rowid_seeks_are_offers, table_scans_are_offers,
-    unions_are_offers,
-};
+pub use offering::chosen_paths_are_offers;
 pub use values::{
     conversions_settle, declared_words_stand_in_text, numbers_are_read, order_is_total,
     same_is_an_equivalence, truth_is_of_a_run, written_numbers_read_back,
 };
-pub use walks::{
-    consumed_conjuncts_hold, index_lists_are_sorted, unions_have_each_row_once, unions_miss_no_row,
-    walks_are_filters,
-};
+pub use walks::{index_lists_are_sorted, unions_are_exact, walks_are_filters};

@@ -11,23 +11,16 @@ pub fn index_lists_are_sorted()
 {}
 
 /// The walk of an offered path that is no union is the filter of the path's list by all terms that
-/// the path uses, in the order of that list. A scan uses none, so it has every row.
+/// the path uses, in the order of that list. A scan uses none, so it has every row. On each row of the
+/// walk each conjunct holds that the path consumes, so it need not be tested.
 pub fn walks_are_filters()
-    ensures { WalksAreFilters }
+    ensures filters { WalksAreFilters }
+    ensures consumed { ConsumedConjunctsHold }
 {}
 
-/// On each row of the walk each conjunct holds that the path consumes, so it need not be tested.
-pub fn consumed_conjuncts_hold()
-    ensures { ConsumedConjunctsHold }
-{}
-
-/// The walk of an offered union has, each once, the rows on which the terms of some branch hold.
-pub fn unions_have_each_row_once()
-    ensures { UnionsHaveEachRowOnce }
-{}
-
-/// The walk of an offered union has every row on which its OR holds, for whatever rows of the items
-/// that aren't placed yet.
-pub fn unions_miss_no_row()
-    ensures { UnionsMissNoRow }
+/// The walk of an offered union has, each once, the rows on which the terms of some branch hold. And it
+/// has every row on which its OR holds, for whatever rows of the items that aren't placed yet.
+pub fn unions_are_exact()
+    ensures each_once { UnionsHaveEachRowOnce }
+    ensures none_missed { UnionsMissNoRow }
 {}
