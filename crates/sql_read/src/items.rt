@@ -1,0 +1,133 @@
+//! The result list: expressions, their aliases and stars.
+ghost use Rattle.std.specs.Prelude.{◌≡◌, ◌++◌, ◌∷◌, [], MatchOption, OnOk, option_map, map};
+ghost use Rattle.sql_tree.specs.Trees.{tree_of};
+ghost use Rattle.sql_tree.specs.Statements.{item_tree};
+ghost use Rattle.sql_read.specs.Lexemes.{seen};
+ghost use Rattle.sql_read.specs.Reading.{Gives};
+ghost use Rattle.sql_read.specs.Expressions.{below, expr_at};
+ghost use Rattle.sql_read.specs.Parts.{label_at, alias_at, table_star_at, value_item_at, item_at};
+ghost use Rattle.sql_read.specs.Statements.{items_at};
+
+use crate::cursor::{Left, after_mark, count_left, first, name};
+use crate::descent::expr;
+use crate::lexeme::{Lexeme, Mark, ReadFault};
+use bumpalo::Bump;
+use sql_tree::{Item, place_expr};
+use std::alloc::Global;
+
+#[tactic(auto, unfolding(crate::specs::Parts::label_at))]
+fn label<'a>(texts: bool, lexemes: Left<'a>) -> Option<(&'a [u8], Left<'a>)>
+    ensures { MatchOption result (label_at texts (seen lexemes.now) ≡ None)
+        (λ r. label_at texts (seen lexemes.now) ≡ Some (r.0.now, seen r.1.now)) }
+{
+    match first(lexemes) {
+        Some((Lexeme::Name(bytes, _), rest)) => Some((bytes, rest)),
+        Some((Lexeme::Text(bytes), rest)) => { if texts { Some((bytes, rest)) } else { None } }
+        _ => None,
+    }
+}
+
+/// The alias that stands here, if one does: a name, and where `texts` is true also a text.
+#[tactic(auto, unfolding(crate::specs::Parts::alias_at))]
+pub fn alias<'a>(texts: bool, lexemes: Left<'a>) -> Result<(Option<&'a [u8]>, Left<'a>), ReadFault>
+    ensures { Gives (λ x. (option_map (λ bytes. bytes.now) x.0, seen x.1.now)) result
+        (alias_at texts (seen lexemes.now)) }
+{
+    match after_mark(Mark::As, lexemes) {
+        Some(behind) => match label(texts, behind) {
+            Some((bytes, rest)) => Ok((Some(bytes), rest)),
+            None => Err(ReadFault::Syntax),
+        },
+        None => match label(texts, lexemes) {
+            Some((bytes, rest)) => Ok((Some(bytes), rest)),
+            None => Ok((None, lexemes)),
+        },
+    }
+}
+
+#[tactic(auto, unfolding(crate::specs::Parts::table_star_at))]
+fn table_star<'a>(lexemes: Left<'a>) -> Option<(&'a [u8], Left<'a>)>
+    ensures { MatchOption result (table_star_at (seen lexemes.now) ≡ None)
+        (λ r. table_star_at (seen lexemes.now) ≡ Some (r.0.now, seen r.1.now)) }
+{
+    match name(lexemes) {
+        Some((table, behind)) => match after_mark(Mark::Dot, behind) {
+            Some(dotted) => match after_mark(Mark::Star, dotted) {
+                Some(rest) => Some((table, rest)),
+                None => None,
+            },
+            None => None,
+        },
+        None => None,
+    }
+}
+
+#[tactic(auto, unfolding(crate::specs::Parts::value_item_at))]
+fn value_item<'a>(
+    alloc: Global,
+    arena: &'a Bump,
+    depth: usize,
+    lexemes: Left<'a>,
+) -> Result<(Item<'a>, Left<'a>), ReadFault>
+    ensures { Gives (λ x. (item_tree x.0, seen x.1.now)) result
+        (value_item_at (expr_at (below depth)) (seen lexemes.now)) }
+{
+    let (value, behind) = expr(alloc, arena, depth, lexemes)?;
+    let (called, rest) = alias(true, behind)?;
+    Ok((Item::Value(place_expr(arena, value)?, called), rest))
+}
+
+#[tactic(auto, unfolding(crate::specs::Parts::item_at))]
+fn item_read<'a>(
+    alloc: Global,
+    arena: &'a Bump,
+    depth: usize,
+    lexemes: Left<'a>,
+) -> Result<(Item<'a>, Left<'a>), ReadFault>
+    ensures { Gives (λ x. (item_tree x.0, seen x.1.now)) result
+        (item_at (expr_at (below depth)) (seen lexemes.now)) }
+{
+    if let Some(rest) = after_mark(Mark::Star, lexemes) {
+        return Ok((Item::Star, rest));
+    }
+    match table_star(lexemes) {
+        Some((table, rest)) => Ok((Item::TableStar(table), rest)),
+        None => value_item(alloc, arena, depth, lexemes),
+    }
+}
+
+fn push<'a>(items: &mut Vec<Item<'a>>, item: Item<'a>) -> Result<(), ReadFault>
+    ensures ok { OnOk result (items.new.items ≡ items.old.items ++ item.entry ∷ []) }
+    ensures memory { result ≡ Err ReadFault.Syntax → ⊥ }
+{
+    match items.push(item) {
+        Ok(()) => Ok(()),
+        Err(_) => Err(ReadFault::Memory),
+    }
+}
+
+/// The entries of the result list.
+#[tactic(auto, unfolding(crate::specs::Statements::items_at))]
+pub fn items<'a>(
+    alloc: Global,
+    arena: &'a Bump,
+    depth: usize,
+    lexemes: Left<'a>,
+) -> Result<(Vec<Item<'a>>, Left<'a>), ReadFault>
+    ensures { Gives (λ x. (map item_tree x.0.items, seen x.1.now)) result
+        (items_at (expr_at (below depth)) (seen lexemes.now)) }
+{
+    let (first_read, mut rest) = item_read(alloc, arena, depth, lexemes)?;
+    let mut list = Vec::new(alloc);
+    push(&mut list, first_read)?;
+    let most = count_left(rest);
+    'members: for _ in 0..most {
+        let Some(behind) = after_mark(Mark::Comma, rest) else {
+            break;
+        };
+        let (next, left) = item_read(alloc, arena, depth, behind)?;
+        push(&mut list, next)?;
+        rest = left;
+    }
+    Ok((list, rest))
+}
