@@ -1,0 +1,7 @@
+pub mod Steps
+pub mod Sound
+pub mod Complete
+pub mod SoundStatements
+pub mod CompleteStatements
+pub mod Whole
+pub mod TokenSteps
