@@ -1,0 +1,4 @@
+pub mod NameKeys
+pub mod ColumnPlaces
+pub mod Sound
+pub mod RowidColumns
