@@ -1,0 +1,6 @@
+pub mod Traversal
+pub mod EntryLists
+pub mod PartLists
+pub mod Collations
+pub mod KeyLists
+pub mod ColumnLaws

@@ -1,0 +1,10 @@
+pub mod Lists
+pub mod Words
+pub mod Cursor
+pub mod Groups
+pub mod Heads
+pub mod ColumnTexts
+pub mod Entries
+pub mod Keys
+pub mod TableTexts
+pub mod TableFacts
