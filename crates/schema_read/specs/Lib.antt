@@ -1,0 +1,9 @@
+pub mod Numbers
+pub mod Entries
+pub mod Rows
+pub mod States
+pub mod Autoindexes
+pub mod Creates
+pub mod Inserts
+pub mod Faults
+pub mod Dumps

@@ -1,0 +1,164 @@
+//! A dump, statement by statement.
+ghost use Rattle.std.specs.Prelude.{◌≡◌, ◌<◌, ◌≤◌, ◌^◌, length, fold, IfOk, IfErr, OnOk};
+ghost use Rattle.schema_read.specs.Dumps as meant;
+
+use crate::creates::{apply_index, apply_table, apply_unread};
+use crate::inserts::{apply_insert, insert_head};
+use crate::state::{GivenList, State, pass_statement};
+use schema_model::{Schema, Tables};
+use schema_text::{create_index_head, create_table_head, create_unread_head};
+use sql_lex::{Span, Token, lex, statements};
+use sql_value::Memory;
+use std::alloc::Global;
+
+/// What a dump holds: its schema, the rows of the tables that are read, the figures of
+/// `sqlite_stat1`, and how many statements and rows are passed over.
+#[derive(Drop)]
+pub struct Dump {
+    pub schema: Schema,
+    pub rows: Tables,
+    pub given: GivenList,
+    pub statements_passed: u64,
+    pub rows_passed: u64,
+}
+
+/// Why a dump isn't read.
+#[derive(Clone, Copy, Debug, PartialEq, Eq)]
+pub enum ReadDumpFault {
+    /// It names more than 1,000 tables, read and unread together.
+    TooManyTables,
+    /// Want of memory.
+    Memory,
+}
+
+impl From<Memory> for ReadDumpFault {
+    ghost use Rattle.schema_read.specs.Faults.{IsMemory};
+
+    ghost from_gives = { λ memory fault. IsMemory fault };
+
+    fn from(_: Memory) -> ReadDumpFault {
+        ReadDumpFault::Memory
+    }
+}
+
+/// The tokens of a statement.
+fn run_tokens(tokens: &[Token], span: Span) -> &[Token]
+    ensures { result.now ≡ meant.run_of tokens.now span }
+{
+    let (first, end) = (span.first as usize, span.end as usize);
+    if first <= end && end <= tokens.len() {
+        &tokens[first..end]
+    } else {
+        &[]
+    }
+}
+
+fn step_insert(
+    alloc: Global,
+    text: &[u8],
+    state: &mut State,
+    tokens: &[Token],
+) -> Result<(), Memory>
+    ensures { OnOk result (state.new ≡ meant.step_insert text.now state.old tokens.now) }
+{
+    match insert_head(text, tokens) {
+        Some(head) => apply_insert(alloc, text, state, head),
+        None => pass_statement(state),
+    }
+}
+
+fn step_index(alloc: Global, text: &[u8], state: &mut State, tokens: &[Token]) -> Result<(), Memory>
+    ensures { OnOk result (state.new ≡ meant.step_index text.now state.old tokens.now) }
+{
+    match create_index_head(text, tokens) {
+        Some(head) => apply_index(alloc, text, state, head),
+        None => step_insert(alloc, text, state, tokens),
+    }
+}
+
+fn step_unread(
+    alloc: Global,
+    text: &[u8],
+    state: &mut State,
+    tokens: &[Token],
+) -> Result<(), Memory>
+    ensures { OnOk result (state.new ≡ meant.step_unread text.now state.old tokens.now) }
+{
+    match create_unread_head(text, tokens) {
+        Some(named) => apply_unread(alloc, text, state, named),
+        None => step_index(alloc, text, state, tokens),
+    }
+}
+
+/// Does what a statement says, by the first rule that fits. A statement that fits none is counted.
+fn step(alloc: Global, text: &[u8], state: &mut State, tokens: &[Token]) -> Result<(), Memory>
+    ensures { OnOk result (state.new ≡ meant.step text.now state.old tokens.now) }
+{
+    match create_table_head(text, tokens) {
+        Some(named) => apply_table(alloc, text, state, named),
+        None => step_unread(alloc, text, state, tokens),
+    }
+}
+
+/// What all statements make, one after another.
+fn read_statements(
+    alloc: Global,
+    text: &[u8],
+    tokens: &[Token],
+    spans: &[Span],
+) -> Result<State, Memory>
+    ensures { IfOk result (λ state. state ≡ fold (meant.step_span text.now tokens.now) meant.empty spans.now) }
+{
+    let mut state = State::new(alloc)?;
+    for span in spans {
+        step(alloc, text, &mut state, run_tokens(tokens, *span))?;
+    }
+    Ok(state)
+}
+
+fn read_text(alloc: Global, text: &[u8]) -> Result<State, Memory>
+    requires { length text.now < 2 ^ 32 }
+    ensures { IfOk result (λ state. state ≡ meant.dump_of text.now) }
+{
+    let tokens = lex(alloc, text)?;
+    if tokens.as_slice().len() >= 1 << 32 {
+        return Err(Memory);
+    }
+    let spans = statements(alloc, text, &tokens)?;
+    read_statements(alloc, text, tokens.as_slice(), spans.as_slice())
+}
+
+fn finish(alloc: Global, state: State) -> Result<Dump, Memory>
+    ensures { IfOk result (λ dump. meant.seen_dump dump ≡ state) }
+{
+    Ok(Dump {
+        rows: state.rows.into_tables(alloc)?,
+        schema: state.schema,
+        given: state.given,
+        statements_passed: state.statements_passed,
+        rows_passed: state.rows_passed,
+    })
+}
+
+fn table_total(schema: &Schema) -> u64
+    ensures { result ≡ meant.table_total schema.now }
+{
+    schema.table_count() as u64 + schema.unread_count() as u64
+}
+
+/// Reads a dump, in one pass over its statements.
+///
+/// What is read and what is passed over is told in docs/dumps.md.
+pub fn read_dump(alloc: Global, text: &[u8]) -> Result<Dump, ReadDumpFault>
+    requires { length text.now < 2 ^ 32 }
+    ensures same { IfOk result (λ dump. meant.seen_dump dump ≡ meant.dump_of text.now) }
+    ensures few { IfOk result (λ dump. meant.table_total dump.schema ≤ 1000) }
+    ensures fault { IfErr result (meant.IsFaultOf (meant.dump_of text.now)) }
+{
+    let state = read_text(alloc, text)?;
+    if table_total(&state.schema) > 1000 {
+        return Err(ReadDumpFault::TooManyTables);
+    }
+    let dump = finish(alloc, state)?;
+    Ok(dump)
+}

@@ -1,0 +1,275 @@
+//! Dumps, and what is read of them.
+use super::*;
+use schema_model::{Column, Index, Row, Schema, Table};
+use sql_value::{Affinity, Bytes, Collation, Memory, Value};
+use std::alloc::Global;
+use std::test::Fail;
+
+/// Writes what a dump holds, in the form of the table below.
+#[derive(Drop)]
+struct Summary {
+    alloc: Global,
+    written: Bytes,
+}
+
+fn add(summary: &mut Summary, piece: &[u8]) -> Result<(), Memory> {
+    summary.written.append(piece)
+}
+
+fn add_number(summary: &mut Summary, number: i64) -> Result<(), Memory> {
+    let Ok(text) = format!(in summary.alloc; "{number}") else {
+        return Err(Memory);
+    };
+    summary.written.append(text.as_bytes())
+}
+
+fn collation(coll: Collation) -> &'static [u8] {
+    match coll {
+        Collation::Binary => b"B",
+        Collation::Nocase => b"N",
+        Collation::Rtrim => b"R",
+    }
+}
+
+fn affinity(aff: Affinity) -> &'static [u8] {
+    match aff {
+        Affinity::Integer => b"I",
+        Affinity::Real => b"R",
+        Affinity::Numeric => b"N",
+        Affinity::Text => b"T",
+        Affinity::Blob => b"B",
+    }
+}
+
+fn add_column(summary: &mut Summary, column: &Column) -> Result<(), Memory> {
+    add(summary, column.name.as_slice())?;
+    add(summary, b":")?;
+    add(summary, affinity(column.affinity))?;
+    add(summary, collation(column.coll))
+}
+
+fn add_table(summary: &mut Summary, table: &Table) -> Result<(), Memory> {
+    add(summary, b"T ")?;
+    add(summary, table.name.as_slice())?;
+    add(summary, b"(")?;
+    for (number, column) in table.columns.as_slice().iter().enumerate() {
+        if number > 0 {
+            add(summary, b",")?;
+        }
+        add_column(summary, column)?;
+    }
+    add(summary, b")")?;
+    if let Some(alias) = table.alias {
+        add(summary, b"@")?;
+        add_number(summary, alias as i64)?;
+    }
+    add(summary, b";")
+}
+
+fn add_value(summary: &mut Summary, value: &Value) -> Result<(), Memory> {
+    match value {
+        Value::Null => add(summary, b"N"),
+        Value::Int(number) => {
+            add(summary, b"i")?;
+            add_number(summary, *number)
+        }
+        Value::Dec(units) => {
+            add(summary, b"d")?;
+            add_number(summary, *units)
+        }
+        Value::Text(bytes) => {
+            add(summary, b"t")?;
+            add(summary, bytes.as_slice())
+        }
+        Value::Blob(bytes) => {
+            add(summary, b"b")?;
+            add(summary, bytes.as_slice())
+        }
+    }
+}
+
+fn add_row(summary: &mut Summary, row: &Row) -> Result<(), Memory> {
+    add(summary, b"R ")?;
+    add_number(summary, row.rowid)?;
+    add(summary, b"=")?;
+    for (number, value) in row.values.as_slice().iter().enumerate() {
+        if number > 0 {
+            add(summary, b",")?;
+        }
+        add_value(summary, value)?;
+    }
+    add(summary, b";")
+}
+
+fn add_index(summary: &mut Summary, index: &Index) -> Result<(), Memory> {
+    add(summary, b"I ")?;
+    add(summary, index.name.as_slice())?;
+    add(summary, b" ")?;
+    add_number(summary, index.table as i64)?;
+    add(summary, b"(")?;
+    for (number, column) in index.columns.as_slice().iter().enumerate() {
+        if number > 0 {
+            add(summary, b",")?;
+        }
+        add_number(summary, column.column as i64)?;
+        add(summary, collation(column.coll))?;
+        add(summary, if column.desc { b"-" } else { b"" })?;
+    }
+    add(summary, b")")?;
+    add(summary, if index.unique { b" unique" } else { b"" })?;
+    add(summary, if index.usable { b"" } else { b" unusable" })?;
+    add(summary, b";")
+}
+
+fn add_tables(summary: &mut Summary, dump: &Dump) -> Result<(), Memory> {
+    for (number, rows) in dump.rows.as_slice().iter().enumerate() {
+        if number < dump.schema.table_count() as usize {
+            add_table(summary, dump.schema.table(number as u32))?;
+        }
+        for row in rows.as_slice() {
+            add_row(summary, row)?;
+        }
+    }
+    Ok(())
+}
+
+fn add_schema(summary: &mut Summary, schema: &Schema) -> Result<(), Memory> {
+    if schema.unread_count() > 0 {
+        add(summary, b"U ")?;
+        add_number(summary, schema.unread_count() as i64)?;
+        add(summary, b";")?;
+    }
+    for number in 0..schema.index_count() {
+        add_index(summary, schema.index(number))?;
+    }
+    Ok(())
+}
+
+fn add_given(summary: &mut Summary, given: &Given) -> Result<(), Memory> {
+    add(summary, b"G ")?;
+    add(summary, given.table.as_slice())?;
+    add(summary, b"|")?;
+    match &given.index {
+        Some(index) => add(summary, index.as_slice())?,
+        None => add(summary, b"-")?,
+    }
+    add(summary, b"|")?;
+    add(summary, given.stat.as_slice())?;
+    add(summary, b";")
+}
+
+fn summary_of(alloc: Global, dump: &Dump) -> Result<Bytes, Memory> {
+    let mut summary = Summary {
+        alloc,
+        written: Bytes::new(alloc),
+    };
+    add_tables(&mut summary, dump)?;
+    add_schema(&mut summary, &dump.schema)?;
+    for given in dump.given.as_slice() {
+        add_given(&mut summary, given)?;
+    }
+    add(&mut summary, b"P ")?;
+    add_number(&mut summary, (dump.statements_passed % 1000) as i64)?;
+    add(&mut summary, b" ")?;
+    add_number(&mut summary, (dump.rows_passed % 1000) as i64)?;
+    Ok(summary.written)
+}
+
+/// Dumps, and the tables with their columns (affinity, collation), rowids' names and rows, the count of
+/// tables that aren't read, the indexes, the figures, and what was passed over.
+const DUMPS: &[(&[u8], &[u8])] = &[
+    (
+        b"CREATE TABLE t(a INT, b); INSERT INTO t VALUES('7',x'00'); INSERT INTO t VALUES(1);",
+        b"T t(a:IB,b:BB);R 1=i7,b\0;P 0 1",
+    ),
+    (
+        b"CREATE TABLE t(id INTEGER PRIMARY KEY, a UNIQUE); INSERT INTO t VALUES(5,1); INSERT INTO t VALUES(NULL,2);",
+        b"T t(id:IB,a:BB)@0;R 5=i5,i1;R 6=i6,i2;I sqlite_autoindex_t_1 0(1B) unique;P 0 0",
+    ),
+    (
+        b"CREATE TABLE t(a) WITHOUT ROWID; INSERT INTO t VALUES(1);",
+        b"U 1;P 1 0",
+    ),
+    (
+        b"CREATE TABLE \"t\"(\"id\" INTEGER, \"a\", PRIMARY KEY(\"id\" AUTOINCREMENT)); INSERT INTO t VALUES(4,'x');",
+        b"T t(id:IB,a:BB)@0;R 4=i4,tx;P 0 0",
+    ),
+    (
+        b"CREATE TABLE t(a); CREATE TABLE T(b); CREATE TABLE sqlite_x(c); CREATE VIEW t AS SELECT 1;",
+        b"T t(a:BB);P 3 0",
+    ),
+    (
+        b"CREATE TEMP TABLE IF NOT EXISTS main.'t'([a b] VARCHAR(1,2) COLLATE nocase COLLATE rtrim, c REAL DEFAULT (1+(2)) CHECK(c>0))",
+        b"T t(a b:TR,c:RB);P 0 0",
+    ),
+    (
+        b"CREATE TABLE t(a COLLATE french); CREATE TABLE u(a COLLATE french COLLATE binary); CREATE TABLE v(a, b AS (a)); CREATE TABLE w(a, A);",
+        b"T u(a:BB);U 3;P 0 0",
+    ),
+    (
+        b"CREATE TABLE t(a INTEGER PRIMARY KEY DESC, b); INSERT INTO t VALUES(7,8);",
+        b"T t(a:IB,b:BB);R 1=i7,i8;I sqlite_autoindex_t_1 0(0B-) unique;P 0 0",
+    ),
+    (
+        b"CREATE TABLE t(a INTEGER, b, PRIMARY KEY(a DESC)); INSERT INTO t VALUES('3',8); INSERT INTO t VALUES(NULL,1); INSERT INTO t VALUES(1.5,1);",
+        b"T t(a:IB,b:BB)@0;R 3=i3,i8;R 4=i4,i1;P 0 1",
+    ),
+    (
+        b"CREATE TABLE t(a PRIMARY KEY, b PRIMARY KEY); CREATE TABLE u(a, UNIQUE(b)); CREATE TABLE v(a, UNIQUE(a COLLATE x));",
+        b"U 3;P 0 0",
+    ),
+    (
+        b"CREATE TABLE t(a UNIQUE, b, UNIQUE(a DESC), CONSTRAINT k UNIQUE(a, b COLLATE NOCASE DESC) ON CONFLICT IGNORE, UNIQUE(a, b), UNIQUE(a+1), PRIMARY KEY(b))",
+        b"T t(a:BB,b:BB);I sqlite_autoindex_t_1 0(0B) unique;I sqlite_autoindex_t_2 0(0B,1N-) unique;I sqlite_autoindex_t_3 0(0B,1B) unique;I sqlite_autoindex_t_4 0(1B) unique;P 0 0",
+    ),
+    (
+        b"CREATE TABLE t(a ANY) STRICT; CREATE TABLE u(a ANY); CREATE TABLE v(a INT) STRICT, STRICT; CREATE TABLE w(a) STRICT,;",
+        b"T u(a:NB);T v(a:IB);U 2;P 0 0",
+    ),
+    (
+        b"CREATE VIRTUAL TABLE IF NOT EXISTS v USING fts5(x); CREATE TEMPORARY VIEW w AS SELECT 1; CREATE TABLE x AS SELECT 1; INSERT INTO v VALUES(1);",
+        b"U 3;P 1 0",
+    ),
+    (
+        b"CREATE TABLE t(a, b); CREATE UNIQUE INDEX i ON t(b DESC, A COLLATE rtrim); CREATE INDEX j ON t(a) WHERE a>1; CREATE INDEX k ON t(a+1); CREATE INDEX I ON t(a); CREATE INDEX l ON nope(a); CREATE INDEX m ON t(zz);",
+        b"T t(a:BB,b:BB);I i 0(1B-,0R) unique;I j 0() unusable;I k 0() unusable;I m 0() unusable;P 2 0",
+    ),
+    (
+        b"CREATE TABLE t(a); INSERT INTO t VALUES(replace('a','b','c')); INSERT INTO t VALUES(1e5); INSERT INTO t VALUES(-1.50000); INSERT INTO t VALUES(+.5); INSERT INTO t VALUES(99999999999999999999); INSERT INTO t VALUES(-9223372036854775808); INSERT INTO t VALUES(9223372036854775808); INSERT INTO t VALUES('it''s'); INSERT INTO t VALUES(1,2); INSERT INTO t(a) VALUES(1); INSERT INTO t VALUES(1),(2);",
+        b"T t(a:BB);R 1=d-15000;R 2=d5000;R 3=i-9223372036854775808;R 4=tit's;P 2 5",
+    ),
+    (
+        b"CREATE TABLE t(id INTEGER PRIMARY KEY, a); INSERT INTO t VALUES(9223372036854775807,1); INSERT INTO t VALUES(NULL,2); INSERT INTO t VALUES(-5,3); INSERT INTO t VALUES(-5,4); INSERT INTO t VALUES('x',5); INSERT INTO t VALUES(2.0,6);",
+        b"T t(id:IB,a:BB)@0;R -5=i-5,i3;R 2=i2,i6;R 9223372036854775807=i9223372036854775807,i1;P 0 3",
+    ),
+    (
+        b"CREATE TABLE t(a REAL, b TEXT, c NUMERIC, d BLOB); INSERT INTO t VALUES(1,1,'1.0','1'); INSERT INTO t VALUES('1.5',1.50,1.25,x'4142');",
+        b"T t(a:RB,b:TB,c:NB,d:BB);R 1=d10000,t1,i1,t1;R 2=d15000,t1.5,d12500,bAB;P 0 0",
+    ),
+    (
+        b"INSERT INTO sqlite_stat1 VALUES('t','i','10 1'); INSERT INTO sqlite_stat1 VALUES('t',NULL,'10'); INSERT INTO sqlite_stat1 VALUES('t',1,'10'); ANALYZE sqlite_schema;",
+        b"G t|i|10 1;G t|-|10;P 2 0",
+    ),
+    (
+        b"CREATE TABLE t(a); CREATE TRIGGER r AFTER INSERT ON t BEGIN INSERT INTO t VALUES(1); DELETE FROM t; END; INSERT INTO t VALUES();",
+        b"T t(a:BB);P 1 1",
+    ),
+    (
+        b"CREATE TABLE t(); CREATE TABLE u(a,,b); CREATE TABLE v(CHECK(1)); CREATE TABLE sqlite_autoindex_w_1(a); CREATE TABLE w(a UNIQUE, b UNIQUE);",
+        b"T v();T w(a:BB,b:BB);U 2;I sqlite_autoindex_w_1 1(0B) unique;I sqlite_autoindex_w_2 1(1B) unique;P 1 0",
+    ),
+];
+
+#[test]
+fn dumps_are_read(rt: HostRuntime) -> Result<(), Fail> {
+    for (text, wanted) in DUMPS {
+        assert!(rt; text.len() < 10000);
+        let Ok(dump) = read_dump(rt.alloc(), text) else {
+            assert!(rt; false);
+            return Ok(());
+        };
+        let found = summary_of(rt.alloc(), &dump)?;
+        assert_eq!(rt; found.as_slice(), *wanted);
+    }
+    Ok(())
+}
