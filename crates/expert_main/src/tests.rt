@@ -1,4 +1,6 @@
 //! The top call over files and sinks in memory.
+ghost use Rattle.std.specs.Prelude.{◌≤◌};
+
 use crate::expert;
 use expert_io::{Calls, Files, MemoryShelf, MemorySink, Words};
 use sql_value::{Bytes, Memory};
