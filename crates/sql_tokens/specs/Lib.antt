@@ -1,6 +1,7 @@
 pub mod Characters
 pub mod Runs
 pub mod Pieces
+pub mod PieceType
 pub mod Tokens
 pub mod Symbols
 pub mod Terminals

@@ -1,0 +1,9 @@
+pub mod Longest
+pub mod Runs
+pub mod Numbers
+pub mod Quotes
+pub mod Doubling
+pub mod Lengths
+pub mod Comments
+pub mod KindForms
+pub mod CutLaws

@@ -1,0 +1,4 @@
+pub mod Form
+pub mod Forms
+pub mod Kinds
+pub mod Cuts
