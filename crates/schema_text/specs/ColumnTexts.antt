@@ -2,13 +2,13 @@
 use Rattle.std.specs.Prelude.{ℕ, ◌+◌, ◌-◌, ◌==◌, ◌&&◌, ◌||◌, Bool, true, false, cond, codes, List, [], ◌∷◌, length, take, drop, slice_get, Option, None, Some, option_map, option_and_then}
 use Rattle.sql_meaning.specs.DeclaredTypes.{affinity_of}
 use Rattle.sql_meaning.specs.Values as plain
-use Rattle.sql_value.specs.Keywords.{same_word}
+use Rattle.sql_value.specs.Collations.{collation_named}
 use Rattle.sql_value.specs.declared.keywords.Keyword.{Keyword}
 use Rattle.sql_value.specs.declared.keywords.Keyword.TheVariants as keyword
 use Rattle.sql_value.specs.declared.values.Affinity.{Affinity}
 use Rattle.sql_value.specs.declared.values.Affinity.TheVariants as affinity
 use Rattle.sql_value.specs.declared.values.Collation.{Collation}
-use Rattle.sql_value.specs.declared.values.Collation.TheVariants.{Binary, Nocase, Rtrim}
+use Rattle.sql_value.specs.declared.values.Collation.TheVariants.{Binary}
 use Rattle.sql_tokens.specs.Terminals.{text_of, terminal_of}
 use Rattle.sql_tokens.specs.TokenValues.{value_of}
 use Rattle.sql_tokens.specs.declared.terminal.Terminal.{Terminal}
@@ -85,12 +85,6 @@ abbrev pub last_collation : List ℕ → ℕ → List Token → Option Token
 last_collation text level [] = None
 last_collation text level (t ∷ ts) =
     or_else (last_collation text (next_level text level t) ts) (at_top level (collation_here text (t ∷ ts)))
-
-abbrev pub collation_named : List ℕ → Option Collation
-collation_named name =
-    cond (same_word name (codes "binary")) (Some Binary) (
-    cond (same_word name (codes "nocase")) (Some Nocase) (
-    cond (same_word name (codes "rtrim")) (Some Rtrim) None))
 
 abbrev pub collation_at : List ℕ → Token → Option Collation
 collation_at text t = collation_named (value_of text t)

@@ -8,7 +8,7 @@ use crate::groups::next_level;
 use crate::words::{is_name, is_word};
 use schema_model::Column;
 use sql_tokens::{Terminal, Token, terminal_at, token_text, token_value};
-use sql_value::{Affinity, Collation, Keyword, Memory, affinity_of, is_same_word};
+use sql_value::{Affinity, Collation, Keyword, Memory, affinity_of, collation_named};
 use std::alloc::Global;
 
 /// Whether the type of a column ends before this token.
@@ -157,21 +157,6 @@ fn last_collation(text: &[u8], rest: &[Token]) -> Option<Token>
         level = next_level(text, level, *token);
     }
     last
-}
-
-/// The collation of a name; none where it is of no collation that is known.
-pub fn collation_named(name: &[u8]) -> Option<Collation>
-    ensures { result ≡ meant.collation_named name.now }
-{
-    if is_same_word(name, b"binary") {
-        Some(Collation::Binary)
-    } else if is_same_word(name, b"nocase") {
-        Some(Collation::Nocase)
-    } else if is_same_word(name, b"rtrim") {
-        Some(Collation::Rtrim)
-    } else {
-        None
-    }
 }
 
 /// The collation that a token names.

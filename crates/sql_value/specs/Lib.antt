@@ -1,3 +1,4 @@
 pub mod Keywords
 pub mod Reserved
 pub mod View
+pub mod Collations

@@ -1,6 +1,7 @@
 //! Bytes and values: what every layer above reads, compares and prints.
 #![tactic(auto)]
 
+mod collations;
 mod condition;
 mod conversion;
 mod items;
@@ -12,6 +13,7 @@ mod reserved;
 mod types;
 mod values;
 
+pub use collations::collation_named;
 pub use condition::truth;
 pub use conversion::{apply, conversions, convert};
 pub use items::{Bytes, Items, Memory};

@@ -1,7 +1,9 @@
 //! Whether the definitions say what was meant: values worked out elsewhere, and calls that succeed.
 use crate::{
-    Affinity, Bytes, Collation, Memory, Value, Values, affinity_of, apply, compare, conversions,
-    convert, fold, read_number, truth,
+    Affinity, Bytes, Collation, Keyword, Memory, Value, Values, affinity_of, apply,
+    collation_named, compare, conversions, convert, find_keyword, fold, fold_byte, is_reserved,
+    is_reserved_keyword, is_same_word, keyword_text, last_digit_units, read_digits, read_number,
+    truth, with_sign,
 };
 use std::alloc::Global;
 use std::cmp::Ordering;
@@ -344,4 +346,50 @@ fn makes_and_copies(rt: HostRuntime) -> Result<(), Fail> {
     values.push(text)?;
     assert_eq!(rt; values.as_slice().len(), 1);
     Ok(())
+}
+
+#[test]
+fn knows_words(rt: HostRuntime) {
+    for (word, keyword, reserved) in [
+        (b"SELECT".as_slice(), Some(Keyword::Select), true),
+        (b"Current_Timestamp", Some(Keyword::CurrentTimestamp), true),
+        (b"isnull", Some(Keyword::Isnull), true),
+        (b"desc", Some(Keyword::Desc), false),
+        (b"replace", Some(Keyword::Replace), false),
+        (b"selec", None, false),
+        (b"row", None, false),
+        (b"", None, false),
+    ] {
+        assert_eq!(rt; find_keyword(word), keyword);
+        assert_eq!(rt; is_reserved(word), reserved);
+    }
+    assert!(rt; is_reserved_keyword(Keyword::Not));
+    assert!(rt; !is_reserved_keyword(Keyword::Asc));
+    assert_eq!(rt; keyword_text(Keyword::Notnull), b"NOTNULL".as_slice());
+    assert!(rt; is_same_word(b"aZ_[", b"Az_["));
+    assert!(rt; !is_same_word(b"@", b"`"));
+    assert_eq!(rt;
+        [fold_byte(b'A'), fold_byte(b'['), fold_byte(0xC4)],
+        [b'a', b'[', 0xC4]
+    );
+    assert_eq!(rt; collation_named(b"NoCase"), Some(Collation::Nocase));
+    assert_eq!(rt; collation_named(b"rtrim "), None);
+}
+
+#[test]
+fn reads_digits(rt: HostRuntime) {
+    for (most, digits, want) in [
+        (32_766, b"32766".as_slice(), Some(32_766)),
+        (32_766, b"32767", None),
+        (32_766, b"0007", Some(7)),
+        (9, b"", None),
+        (9, b"+1", None),
+        (1 << 63, b"9223372036854775808", Some(1 << 63)),
+        (1 << 63, b"92233720368547758080", None),
+    ] {
+        assert_eq!(rt; read_digits(most, digits), want);
+    }
+    assert_eq!(rt; with_sign(true, 5), -5);
+    assert_eq!(rt; with_sign(false, (1 << 63) - 1), i64::MAX);
+    assert_eq!(rt; [0, 1, 4].map(last_digit_units), [10_000, 1_000, 1]);
 }
