@@ -1,8 +1,8 @@
 -- A dump, statement by statement.
-use Rattle.std.specs.Prelude.{ℕ, ◌+◌, ◌<◌, ◌&&◌, nat_le, cond, fold, List, [], length, slice_range, Option, None, Some}
+use Rattle.std.specs.Prelude.{ℕ, ◌+◌, ◌<◌, fold, List, length, Option, None, Some}
 use Rattle.sql_tokens.specs.Tokens.{tokens_of}
 use Rattle.sql_tokens.specs.declared.token.Token.{Token}
-use Rattle.sql_lex.specs.Statements.{statements_of}
+use Rattle.sql_lex.specs.Statements.{run_of, statements_of}
 use Rattle.sql_lex.specs.declared.statement_runs.Span.{Span}
 use Rattle.schema_model.specs.PlainSchemas.{plain_database}
 use Rattle.schema_model.specs.Schemas.{Schema}
@@ -49,10 +49,6 @@ table_or_further text d ts None = step_unread text d ts
 -- CREATE VIRTUAL TABLE, CREATE INDEX, INSERT; any other is passed over
 abbrev pub step : List ℕ → State → List Token → State
 step text d ts = table_or_further text d ts (create_table_head text ts)
-
-abbrev pub run_of : List Token → Span → List Token
-run_of tokens span =
-    cond (nat_le span.first span.end && nat_le span.end (length tokens)) (slice_range tokens span.first span.end) []
 
 abbrev pub step_span : List ℕ → List Token → State → Span → State
 step_span text tokens d span = step text d (run_of tokens span)

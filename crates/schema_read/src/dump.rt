@@ -7,7 +7,7 @@ use crate::inserts::{apply_insert, insert_head};
 use crate::state::{GivenList, State, pass_statement};
 use schema_model::{Schema, Tables};
 use schema_text::{create_index_head, create_table_head, create_unread_head};
-use sql_lex::{Span, Token, lex, statements};
+use sql_lex::{Span, Token, lex, run_tokens, statements};
 use sql_value::Memory;
 use std::alloc::Global;
 
@@ -38,18 +38,6 @@ impl From<Memory> for ReadDumpFault {
 
     fn from(_: Memory) -> ReadDumpFault {
         ReadDumpFault::Memory
-    }
-}
-
-/// The tokens of a statement.
-fn run_tokens(tokens: &[Token], span: Span) -> &[Token]
-    ensures { result.now ≡ meant.run_of tokens.now span }
-{
-    let (first, end) = (span.first as usize, span.end as usize);
-    if first <= end && end <= tokens.len() {
-        &tokens[first..end]
-    } else {
-        &[]
     }
 }
 

@@ -1,6 +1,6 @@
 -- The statements of a text.
 use Rattle.std.specs.Prelude.{ℕ, zero, suc, ◌+◌, ◌-◌, Bool, not, ◌==◌, ◌&&◌, ◌||◌, cond}
-use Rattle.std.specs.Prelude.{Some, List, [], ◌∷◌, ◌++◌, map, slice_get}
+use Rattle.std.specs.Prelude.{Some, List, [], ◌∷◌, ◌++◌, map, slice_get, slice_range, length, nat_le}
 use Rattle.std.specs.List.{prefix_len}
 use Rattle.sql_value.specs.declared.keywords.Keyword.TheVariants as keyword
 use Rattle.sql_tokens.specs.Terminals.{terminal_of}
@@ -54,3 +54,9 @@ spans_from (suc inside) place (t ∷ ts) = spans_from inside (place + 1) ts
 -- the statements of a text with these tokens
 unfoldable pub statements_of : List ℕ → List Token → List Span
 statements_of text tokens = spans_from 0 0 (map (terminal_of text) tokens)
+
+-- the tokens of a run
+abbrev pub run_of : List Token → Span → List Token
+run_of tokens span =
+    cond (nat_le span.first span.end && nat_le span.end (length tokens))
+    (slice_range tokens span.first span.end) []

@@ -20,7 +20,7 @@ pub use foreign_entries::foreign;
 pub use sql_tokens::{
     Symbol, Terminal, Token, TokenKind, Tokens, lex, terminal_at, token_text, token_value,
 };
-pub use statement_runs::{Span, Spans, statements};
+pub use statement_runs::{Span, Spans, run_tokens, statements};
 
 #[cfg(test)]
 mod tests;

@@ -3,7 +3,7 @@ ghost use Rattle.std.specs.Prelude.{◌≡◌, ◌+◌, ◌<◌, ◌≤◌, ◌^
 ghost use Rattle.std.specs.List.{prefix_len};
 ghost use Rattle.sql_tokens.specs.Terminals.{terminal_of};
 ghost use Rattle.sql_lex.specs.Statements.{begins_trigger, ends_trigger, trigger_len, is_inner};
-ghost use Rattle.sql_lex.specs.Statements.{run_len, spans_of_run, statements_of};
+ghost use Rattle.sql_lex.specs.Statements.{run_len, run_of, spans_of_run, statements_of};
 
 use crate::looks::{is_keyword, is_keyword_among, is_symbol, peek, tokens_from};
 use sql_tokens::{Symbol, Token, Tokens, terminal_at};
@@ -112,4 +112,16 @@ pub fn statements(alloc: Global, text: &[u8], tokens: &Tokens) -> Result<Spans, 
         start += run.max(1);
     }
     Ok(spans)
+}
+
+/// The tokens of a run; none where it is no run of these tokens.
+pub fn run_tokens(tokens: &[Token], span: Span) -> &[Token]
+    ensures { result.now ≡ run_of tokens.now span }
+{
+    let (first, end) = (span.first as usize, span.end as usize);
+    if first <= end && end <= tokens.len() {
+        &tokens[first..end]
+    } else {
+        &[]
+    }
 }
