@@ -5,5 +5,14 @@ pub mod Quotes
 pub mod Doubling
 pub mod Lengths
 pub mod Comments
+pub mod Symbols
+pub mod Blobs
+pub mod ParameterNumbers
+pub mod Openers
+pub mod OneLength
+pub mod FirstQuotes
+pub mod FirstBrackets
+pub mod FirstRows
+pub mod OnePiece
 pub mod KindForms
 pub mod CutLaws
