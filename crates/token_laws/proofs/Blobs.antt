@@ -1,5 +1,5 @@
 -- Pairs of digits, as the run of digits up to the quote tells them.
-use Rattle.std.proofs.Common.{◌≡◌, ℕ, zero, suc, ◌+◌, ◌%◌, ◌==◌, ◌&&◌, cond, Bool, true, false}
+use Rattle.std.proofs.Common.{◌≡◌, ℕ, suc, ◌+◌, ◌%◌, ◌==◌, ◌&&◌, cond, Bool, true, false}
 use Rattle.std.proofs.Common.{List, [], ◌∷◌, ◌++◌, length, refl, ap, sym, ◌∙◌, arith}
 use Rattle.std.specs.List.{prefix_len}
 use Rattle.std.specs.Char.{is_ascii_hexdigit}
@@ -12,7 +12,8 @@ all_even digits m = digits % 2 == 0 && m + 1 == digits + 1
 
 two_more : (d m : ℕ) → all_even d m ≡ all_even (1 + (1 + d)) (suc (suc m))
 two_more d m =
-    let even : (1 + (1 + d)) % 2 ≡ d % 2 = let two : 1 + (1 + d) ≡ 2 + d = omega arith in ap (λ n. n % 2) two ∙ add-mod_left 2 d in
+    let two : 1 + (1 + d) ≡ 2 + d = omega arith in
+    let even : (1 + (1 + d)) % 2 ≡ d % 2 = ap (λ n. n % 2) two ∙ add-mod_left 2 d in
     rw even (ap (λ v. d % 2 == 0 && v) (grind arith))
 
 longer_than_none : (m : ℕ) → (suc (suc m) + 1 == 0 + 1) ≡ false

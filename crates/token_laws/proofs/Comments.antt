@@ -1,7 +1,7 @@
 -- A comment ends at its first `*/`.
-use Rattle.std.proofs.Common.{◌≡◌, ℕ, zero, suc, ◌+◌, ◌<◌, ◌≤◌, ◌==◌, ◌&&◌, ◌||◌, cond, ◌⊎◌, inl, inr}
-use Rattle.std.proofs.Common.{Bool, true, false, List, [], ◌∷◌, length, take, drop, refl, ap, ◌∙◌, arith}
-use Rattle.sql_tokens.specs.Runs.{begins, comment_len, behind_star_len}
+use Rattle.std.proofs.Common.{◌≡◌, ℕ, zero, suc, ◌+◌, ◌<◌, ◌==◌, ◌||◌, cond, ◌⊎◌, inl, inr}
+use Rattle.std.proofs.Common.{Bool, true, false, List, [], ◌∷◌, length, take, refl, ap, ◌∙◌, arith}
+use Rattle.sql_tokens.specs.Runs.{comment_len, behind_star_len}
 use Rattle.token_laws.specs.Kinds.{has_comment_end, IsCommentRest}
 use Rattle.token_laws.proofs.Lengths.{comment_within}
 

@@ -5,7 +5,6 @@ use Rattle.sql_tokens.proofs.CutSteps.{cut_step}
 use Rattle.sql_tokens.specs.Pieces.{piece_at}
 use Rattle.sql_tokens.specs.Tokens.{tokens_from, tokens_of, tokens_of_piece}
 use Rattle.sql_tokens.specs.PieceType.{Piece}
-use Rattle.sql_tokens.specs.declared.token.Token.{Token}
 use Rattle.token_laws.specs.Cuts.{IsCut, tokens_among}
 use Rattle.token_laws.specs.Table.{table, IsFirst}
 use Rattle.token_laws.proofs.FirstRows.{piece_first}

@@ -1,6 +1,6 @@
 -- What stands first where a bracket does.
-use Rattle.std.proofs.Common.{◌≡◌, ℕ, zero, suc, ◌+◌, ◌<◌, ◌≤◌, ◌==◌, ◌&&◌, cond, not, inl, inr, Bool}
-use Rattle.std.proofs.Common.{true, false, Option, None, Some, List, [], ◌∷◌, length, drop, refl, ap}
+use Rattle.std.proofs.Common.{◌≡◌, ℕ, suc, ◌+◌, ◌<◌, ◌≤◌, ◌==◌, ◌&&◌, cond, not, inl, inr, Bool}
+use Rattle.std.proofs.Common.{true, false, None, Some, List, [], ◌∷◌, length, drop, refl, ap}
 use Rattle.std.proofs.Common.{sym, subst, ◌∙◌, arith, drop_of_length-le}
 use Rattle.std.specs.List.{prefix_len}
 use Rattle.std.specs.Prelude.{nat_lt}
@@ -8,11 +8,10 @@ use Rattle.sql_tokens.specs.Pieces.{token, bracket_at}
 use Rattle.sql_tokens.specs.declared.token.TokenKind.TheVariants as kind
 use Rattle.token_laws.specs.Form.{Form, nothing, byte_then, run_then, longest}
 use Rattle.token_laws.specs.Forms.{is, bracketed}
-use Rattle.token_laws.specs.Kinds.{IsLongest, IsQuoted}
-use Rattle.token_laws.specs.Rows as row
+use Rattle.token_laws.specs.Kinds.{IsQuoted}
 use Rattle.token_laws.specs.Table.{IsFirst}
 use Rattle.token_laws.proofs.FirstQuotes.{behind_blobs, longest_is}
-use Rattle.token_laws.proofs.Longest.{none_passes, of_byte, of_run, of_nothing, more, plus}
+use Rattle.token_laws.proofs.Longest.{none_passes, of_byte, of_run, of_nothing}
 use Rattle.token_laws.proofs.Quotes.{same_is}
 
 open_is_unclosed : (b : ℕ) → (b == 91) ≡ true → (b == 93) ≡ false
@@ -101,9 +100,19 @@ bracket_at_bracket bs = at _ refl
     at false e =
         let ge : suc (length bs) ≤ n = grind (arith, e) in
         let none = no_bracket_closes 91 bs refl ge in
-        inr (λ m f. only_bracket m none f,
-        inl (refl, (refl, inr (inr (inr (inr (refl,
-        λ m f. absurd (cc (none_passes bracketed (91 ∷ bs) m none f.0, f.1)))))))))
+        inr (
+          λ m f. only_bracket m none f,
+          inl (
+            refl,
+            (
+              refl,
+              inr (inr (inr (inr (
+                refl,
+                λ m f. absurd (cc (none_passes bracketed (91 ∷ bs) m none f.0, f.1)),
+              )))),
+            ),
+          ),
+        )
 
 pub bracket_first :
     (b : ℕ) (bs : List ℕ)

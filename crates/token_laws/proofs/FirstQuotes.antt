@@ -1,6 +1,6 @@
 -- What stands first where a quote or a bracket does.
-use Rattle.std.proofs.Common.{◌≡◌, ℕ, zero, suc, ◌+◌, ◌%◌, ◌<◌, ◌≤◌, ◌==◌, ◌&&◌, ◌||◌, cond, not, ◌⊎◌}
-use Rattle.std.proofs.Common.{inl, inr, Bool, true, false, Option, None, Some, List, [], ◌∷◌, ◌++◌}
+use Rattle.std.proofs.Common.{◌≡◌, ℕ, ◌+◌, ◌%◌, ◌==◌, ◌&&◌, ◌||◌, cond, ◌⊎◌}
+use Rattle.std.proofs.Common.{inl, inr, Bool, true, false, Option, None, Some, List, [], ◌∷◌}
 use Rattle.std.proofs.Common.{length, take, drop, refl, ap, sym, subst, ◌∙◌, arith}
 use Rattle.std.proofs.Math.Seq.{take-append_seam}
 use Rattle.std.specs.List.{prefix_len}
@@ -8,7 +8,6 @@ use Rattle.std.specs.Char.{is_ascii_hexdigit}
 use Rattle.sql_tokens.specs.PieceType.{Piece}
 use Rattle.sql_tokens.specs.Runs.{begins, inside_len}
 use Rattle.sql_tokens.specs.Pieces.{token, piece_or, quoted_at, blob_at}
-use Rattle.sql_tokens.specs.declared.token.TokenKind.{TokenKind}
 use Rattle.sql_tokens.specs.declared.token.TokenKind.TheVariants as kind
 use Rattle.token_laws.specs.Form.{Form, longest}
 use Rattle.token_laws.specs.Forms.{is, doubled, pairs, Closed}
@@ -21,8 +20,8 @@ use Rattle.token_laws.proofs.Blobs.{all_even, pairs_are}
 use Rattle.token_laws.proofs.Lengths.{right_of}
 use Rattle.token_laws.proofs.Longest.{longest_within, passes, no_longer}
 use Rattle.token_laws.proofs.OneLength.{closed_len, closed_once}
-use Rattle.token_laws.proofs.Openers.{opens, unfit, left_of, front_byte}
-use Rattle.token_laws.proofs.Quotes.{found, same_is, same_byte}
+use Rattle.token_laws.proofs.Openers.{unfit, left_of, front_byte}
+use Rattle.token_laws.proofs.Quotes.{found, same_is}
 
 pub longest_is : (f : Form) (bs : List ℕ) (n : ℕ) → longest f bs ≡ Some n → IsLongest f bs n
 longest_is f bs n e =
@@ -62,17 +61,27 @@ closed_or_open rows all n (Some m) f h g = h m refl
 stays_open : (q : ℕ) (bs : List ℕ) → inside_len q bs ≡ None → IsOpen q bs
 stays_open q bs e m c = absurd (cc (closed_len q bs m c, e))
 
-text_at : (bs : List ℕ) → IsFirst (row.text ∷ behind_text) (39 ∷ bs) (quoted_at kind.Text 39 (39 ∷ bs))
+text_at :
+    (bs : List ℕ)
+    → IsFirst (row.text ∷ behind_text) (39 ∷ bs) (quoted_at kind.Text 39 (39 ∷ bs))
 unfolding quoted_at
 text_at bs =
     closed_or_open (row.text ∷ behind_text) (39 ∷ bs) _ (inside_len 39 bs) _
     (λ m e. inl (refl, (refl, (m, (refl, found 39 bs m e)))))
     (λ e. let open_there = stays_open 39 bs e in
-    inr (λ n f. open_there (f.1.0) f.1.1.1,
-    inr (unfit row.blob 39 bs refl,
-    inr (unfit row.unpaired_blob 39 bs refl,
-    inr (unfit row.quoted 39 bs refl,
-    inl (refl, (refl, inl (refl, open_there))))))))
+    inr (
+      λ n f. open_there (f.1.0) f.1.1.1,
+      inr (
+        unfit row.blob 39 bs refl,
+        inr (
+          unfit row.unpaired_blob 39 bs refl,
+          inr (
+            unfit row.quoted 39 bs refl,
+            inl (refl, (refl, inl (refl, open_there))),
+          ),
+        ),
+      ),
+    ))
 
 pub text_first :
     (b : ℕ) (bs : List ℕ)
@@ -129,10 +138,16 @@ blob_first b bs t =
     closed_or_open behind_text (b ∷ bs) _ (inside_len 39 (drop 1 bs)) _
     (λ m e. closes m (found 39 (drop 1 bs) m e))
     (λ e. let open_there = stays_open 39 (drop 1 bs) e in
-    inr (λ n f. open_there (f.2.0 + 1) f.2.1.1,
-    inr (λ n f. open_there (f.2.0 + 1) f.2.1.1,
-    inr (unfit row.quoted b bs (no_quote b x),
-    inl (refl, (refl, inr (inl (x, q, open_there))))))))
+    inr (
+      λ n f. open_there (f.2.0 + 1) f.2.1.1,
+      inr (
+        λ n f. open_there (f.2.0 + 1) f.2.1.1,
+        inr (
+          unfit row.quoted b bs (no_quote b x),
+          inl (refl, (refl, inr (inl (x, q, open_there)))),
+        ),
+      ),
+    ))
   where
     x : (b == 120 || b == 88) ≡ true
     x = left_of (b == 120 || b == 88) (begins 39 bs) t
@@ -173,8 +188,10 @@ quoted_at_quote q bs own is_one is_only is_open =
     closed_or_open behind_blobs (q ∷ bs) _ (inside_len q bs) _
     (λ m e. inl (refl, is_one (m + 1) (own, (m, (refl, found q bs m e)))))
     (λ e. let open_there = stays_open q bs e in
-    inr (λ n f. let g = is_only n f in open_there (g.1.0) g.1.1.1,
-    inl (refl, (refl, is_open (own, open_there)))))
+    inr (
+      λ n f. let g = is_only n f in open_there (g.1.0) g.1.1.1,
+      inl (refl, (refl, is_open (own, open_there))),
+    ))
 
 only_double : (bs : List ℕ) (n : ℕ) → IsQuoted (34 ∷ bs) n → IsBetweenQuotes 34 (34 ∷ bs) n
 only_double bs n (inl h) = h
@@ -206,5 +223,6 @@ quoted_first b bs t = at (b == 34) refl (b == 96) refl t
     at false e true f h =
         subst (λ (c : ℕ). IsFirst behind_blobs (c ∷ bs) (quoted_at kind.Quoted c (c ∷ bs)))
         (sym (same_is b 96 f))
-        (quoted_at_quote 96 bs refl (λ n g. inr (inl g)) (only_back bs) (λ o. inr (inr (inr (inl o)))))
+        (quoted_at_quote 96 bs refl (λ n g. inr (inl g)) (only_back bs)
+        (λ o. inr (inr (inr (inl o)))))
     at false e false f h = absurd (cc)

@@ -1,6 +1,6 @@
 -- Each piece has the form of its kind, since that is what each row says.
-use Rattle.std.proofs.Common.{◌≡◌, ℕ, ◌⊎◌, inl, inr, Option, None, Some, List, [], ◌∷◌, refl, subst}
-use Rattle.std.proofs.Common.{sym, ◌∙◌}
+use Rattle.std.proofs.Common.{◌≡◌, ℕ, ◌⊎◌, inl, inr, Option, None, Some, List, [], ◌∷◌, subst}
+use Rattle.std.proofs.Common.{sym}
 use Rattle.sql_tokens.specs.PieceType.{Piece}
 use Rattle.sql_tokens.specs.Pieces.{piece_at}
 use Rattle.sql_tokens.specs.declared.token.TokenKind.{TokenKind}

@@ -1,10 +1,10 @@
 -- Each piece has a byte, and lies within the bytes.
-use Rattle.std.proofs.Common.{◌≡◌, ℕ, zero, suc, ◌+◌, ◌*◌, ◌<◌, ◌≤◌, ◌==◌, ◌&&◌, ◌||◌, cond, not}
-use Rattle.std.proofs.Common.{Bool, true, false, Option, None, Some, List, [], ◌∷◌, length, drop, take}
-use Rattle.std.proofs.Common.{refl, ap, sym, ◌∙◌, arith, length-drop, length-append}
+use Rattle.std.proofs.Common.{◌≡◌, ℕ, zero, suc, ◌+◌, ◌<◌, ◌≤◌, ◌==◌, ◌&&◌, ◌||◌, cond, not}
+use Rattle.std.proofs.Common.{Bool, true, false, Option, None, Some, List, [], ◌∷◌, length, drop}
+use Rattle.std.proofs.Common.{refl, ap, ◌∙◌, arith, length-drop, length-append}
 use Rattle.std.specs.Prelude.{nat_lt}
 use Rattle.std.specs.List.{prefix_len}
-use Rattle.std.specs.Char.{is_ascii_digit, is_ascii_hexdigit}
+use Rattle.std.specs.Char.{is_ascii_digit}
 use Rattle.std.proofs.lemmas.List.Sums.{prefix_len-le-length}
 use Rattle.sql_tokens.specs.Characters.{is_space_byte, is_word_start, is_word_byte}
 use Rattle.sql_tokens.specs.Runs.{begins, inside_len, comment_len, behind_star_len}

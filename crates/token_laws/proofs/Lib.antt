@@ -12,7 +12,9 @@ pub mod Openers
 pub mod OneLength
 pub mod FirstQuotes
 pub mod FirstBrackets
+pub mod FirstNumbers
 pub mod FirstRows
 pub mod OnePiece
 pub mod KindForms
 pub mod CutLaws
+pub mod BadForms

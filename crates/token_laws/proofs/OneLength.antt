@@ -1,9 +1,9 @@
 -- Each row fits with one length at most.
-use Rattle.std.proofs.Common.{◌≡◌, ℕ, zero, suc, ◌+◌, ◌<◌, ◌≤◌, ◌==◌, ◌||◌, ◌⊎◌, inl, inr, Bool, true}
-use Rattle.std.proofs.Common.{false, Some, List, [], ◌∷◌, ◌++◌, length, take, drop, refl, ap, sym}
+use Rattle.std.proofs.Common.{◌≡◌, ℕ, zero, suc, ◌+◌, ◌<◌, ◌==◌, ◌||◌, ◌⊎◌, inl, inr, Bool, true}
+use Rattle.std.proofs.Common.{false, Some, List, [], ◌∷◌, length, take, drop, refl, ap, sym}
 use Rattle.std.proofs.Common.{subst, ◌∙◌, arith}
 use Rattle.sql_tokens.specs.Runs.{begins, inside_len}
-use Rattle.token_laws.specs.Form.{Form, byte_then}
+use Rattle.token_laws.specs.Form.{Form}
 use Rattle.token_laws.specs.Forms.{is, Closed, spaces, line_comment, word, word_bytes, number}
 use Rattle.token_laws.specs.Forms.{bracketed, numbered_parameter, named_parameter, symbol}
 use Rattle.token_laws.specs.Kinds.{IsLongest, IsCommentRest, IsComment, IsBetweenQuotes, IsQuoted}

@@ -1,9 +1,9 @@
 -- One piece at most is of the first row that fits.
-use Rattle.std.proofs.Common.{◌≡◌, ℕ, Option, ◌⊎◌, inl, inr, List, [], ◌∷◌, ap, sym, ◌∙◌, subst}
+use Rattle.std.proofs.Common.{◌≡◌, ℕ, Option, inl, inr, List, [], ◌∷◌, ap, sym, ◌∙◌}
 use Rattle.sql_tokens.specs.PieceType.{Piece}
 use Rattle.sql_tokens.specs.declared.token.TokenKind.{TokenKind}
 use Rattle.token_laws.specs.Rows.{Row}
-use Rattle.token_laws.specs.Table.{BeginsWith, IsFirst}
+use Rattle.token_laws.specs.Table.{IsFirst}
 use Rattle.token_laws.proofs.OneLength.{one_length}
 
 abbrev piece_of : Option TokenKind → ℕ → Piece

@@ -1,12 +1,11 @@
 -- With which bytes each row begins.
-use Rattle.std.proofs.Common.{◌≡◌, ℕ, zero, suc, ◌+◌, ◌==◌, ◌&&◌, ◌||◌, not, ◌⊎◌, inl, inr, Bool}
-use Rattle.std.proofs.Common.{true, false, Option, None, Some, List, [], ◌∷◌, take, drop, refl, ap}
-use Rattle.std.proofs.Common.{sym, ◌∙◌, arith}
+use Rattle.std.proofs.Common.{◌≡◌, ℕ, zero, suc, ◌==◌, ◌&&◌, ◌||◌, not, ◌⊎◌, inl, inr, Bool}
+use Rattle.std.proofs.Common.{true, false, List, [], ◌∷◌, take, refl}
 use Rattle.sql_tokens.specs.Characters.{is_space_byte, is_word_start}
 use Rattle.sql_tokens.specs.Runs.{begins}
 use Rattle.sql_tokens.specs.Pieces.{number_len, symbol_len}
 use Rattle.token_laws.specs.Form.{Form, byte_then, longest}
-use Rattle.token_laws.specs.Forms.{is, number, symbol, bracketed}
+use Rattle.token_laws.specs.Forms.{is, number, symbol}
 use Rattle.token_laws.specs.Kinds.{IsLongest}
 use Rattle.token_laws.specs.BadTokens.{OpensQuoted, OpensBlob, OpensBracket}
 use Rattle.token_laws.specs.Rows.{Row}
@@ -92,10 +91,12 @@ quote_or_bracket b bs (inl h) = first_or _ (b == 91) (first_or (b == 34) (b == 9
 quote_or_bracket b bs (inr (inl h)) = first_or _ (b == 91) (or_second (b == 34) (b == 96) h.0)
 quote_or_bracket b bs (inr (inr h)) = or_second (b == 34 || b == 96) (b == 91) h.0
 
-opened : (r : Row) (b : ℕ) (bs : List ℕ) (n : ℕ) → BeginsWith r (b ∷ bs) n → opens r b bs ≡ true
+pub opened :
+    (r : Row) (b : ℕ) (bs : List ℕ) (n : ℕ) → BeginsWith r (b ∷ bs) n → opens r b bs ≡ true
 opened row.spaces b bs n h = front_byte is_space_byte _ b bs n h.1
 opened row.line_comment b bs n h =
-    both (b == 45) (begins 45 bs) (front_byte (is 45) _ b bs n h.1) (second_begins 45 45 _ b bs n h.1)
+    both (b == 45) (begins 45 bs) (front_byte (is 45) _ b bs n h.1)
+    (second_begins 45 45 _ b bs n h.1)
 opened row.block_comment b bs n h = both (b == 47) (begins 42 bs) h.0 h.1
 opened row.text b bs n h = h.0
 opened row.blob b bs n h = both (b == 120 || b == 88) (begins 39 bs) h.0 h.1
@@ -120,7 +121,8 @@ opened row.unclosed b bs n h = at (h.1)
     at (inr (inr o)) =
         or_second (b == 39 || blob) (opens row.quoted b bs) (quote_or_bracket b bs o)
 opened row.word b bs n h = front_byte is_word_start _ b bs n h.1
-opened row.number b bs n h = some_run_of number (b ∷ bs) (number_len (b ∷ bs)) n (number_is (b ∷ bs)) h.0
+opened row.number b bs n h =
+    some_run_of number (b ∷ bs) (number_len (b ∷ bs)) n (number_is (b ∷ bs)) h.0
 opened row.joined_number b bs n h =
     some_run_of number (b ∷ bs) (number_len (b ∷ bs)) (h.0) (number_is (b ∷ bs)) h.1.1.1
 opened row.parameter b bs n (inl h) =
@@ -129,7 +131,8 @@ opened row.parameter b bs n (inr h) =
     or_second (b == 63) (b == 58 || b == 64 || b == 36)
     (front_byte (λ c. c == 58 || c == 64 || c == 36) _ b bs n h.1)
 opened row.wrong_parameter b bs n h = front_byte (is 63) _ b bs n h.0.1
-opened row.symbol b bs n h = some_run_of symbol (b ∷ bs) (symbol_len (b ∷ bs)) n (symbol_is b bs) h.1
+opened row.symbol b bs n h =
+    some_run_of symbol (b ∷ bs) (symbol_len (b ∷ bs)) n (symbol_is b bs) h.1
 
 -- so a row doesn't fit where its first bytes aren't there
 pub unfit :

@@ -1,6 +1,6 @@
 -- Which parameters by number pass.
-use Rattle.std.proofs.Common.{◌≡◌, ℕ, zero, suc, ◌+◌, ◌==◌, ◌&&◌, ◌||◌, cond, Bool, true, false}
-use Rattle.std.proofs.Common.{Option, None, Some, List, [], ◌∷◌, take, drop, refl, ap, sym, ◌∙◌, arith}
+use Rattle.std.proofs.Common.{◌≡◌, ℕ, suc, ◌+◌, ◌==◌, ◌&&◌, ◌||◌, cond, Bool, true, false}
+use Rattle.std.proofs.Common.{None, Some, List, [], ◌∷◌, take, refl, ap, sym, ◌∙◌, arith}
 use Rattle.std.specs.Prelude.{nat_lt, nat_le}
 use Rattle.std.specs.List.{prefix_len}
 use Rattle.std.specs.Char.{is_ascii_digit}

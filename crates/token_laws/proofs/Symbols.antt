@@ -1,9 +1,8 @@
 -- The run of a symbol is the longest front that is one of the symbols.
-use Rattle.std.proofs.Common.{◌≡◌, ℕ, zero, suc, ◌+◌, ◌==◌, ◌||◌, ◌&&◌, cond, Bool, true, false}
+use Rattle.std.proofs.Common.{◌≡◌, ℕ, ◌==◌, ◌||◌, cond, Bool, true, false}
 use Rattle.std.proofs.Common.{Option, None, Some, List, [], ◌∷◌, refl, ap, sym, subst, ◌∙◌}
-use Rattle.sql_tokens.specs.Runs.{begins}
 use Rattle.sql_tokens.specs.Pieces.{symbol_len}
-use Rattle.token_laws.specs.Form.{Form, longest}
+use Rattle.token_laws.specs.Form.{longest}
 use Rattle.token_laws.specs.Forms.{is, exactly, one_of, symbols, symbol}
 use Rattle.token_laws.proofs.Longest.{of_nothing, of_byte, of_either, never, more, most}
 use Rattle.token_laws.proofs.Runs.{some_len}
@@ -45,17 +44,28 @@ by_byte k P b one others = at (b == k) refl
 abbrev Found : ℕ → Type 0
 Found b = (bs : List ℕ) → longest_of symbols (b ∷ bs) ≡ some_len (symbol_len (b ∷ bs))
 
+-- the length of a symbol of two bytes, by whether the second fits
+abbrev second : Bool → Option ℕ
+second v = more (more (cond v (Some 0) None))
+
 minus : Found 45
 unfolding symbol_len
 minus [] = refl
 minus (c ∷ []) = at (c == 62)
   where
-    at : (v : Bool) → most (Some 1) (most (more (more (cond v (Some 0) None))) (most (more (more (cond v None None))) None)) ≡ some_len (cond v (cond false 3 2) 1)
+    at :
+        (v : Bool)
+        → most (Some 1) (most (second v) (most (more (more (cond v None None))) None))
+        ≡ some_len (cond v (cond false 3 2) 1)
     at true = refl
     at false = refl
 minus (c ∷ d ∷ bs) = at (c == 62) (d == 62)
   where
-    at : (v w : Bool) → most (Some 1) (most (more (more (cond v (Some 0) None))) (most (more (more (cond v (more (cond w (Some 0) None)) None))) None)) ≡ some_len (cond v (cond w 3 2) 1)
+    at :
+        (v w : Bool)
+        → most (Some 1) (most (second v)
+        (most (more (more (cond v (more (cond w (Some 0) None)) None))) None))
+        ≡ some_len (cond v (cond w 3 2) 1)
     at true true = refl
     at true false = refl
     at false true = refl
@@ -66,7 +76,7 @@ unfolding symbol_len
 equals [] = refl
 equals (c ∷ cs) = at (c == 61)
   where
-    at : (v : Bool) → most (Some 1) (most (more (more (cond v (Some 0) None))) None) ≡ some_len (cond v 2 1)
+    at : (v : Bool) → most (Some 1) (most (second v) None) ≡ some_len (cond v 2 1)
     at true = refl
     at false = refl
 
@@ -77,8 +87,8 @@ less (c ∷ cs) = at (c == 62) (c == 61) (c == 60)
   where
     at :
         (v w x : Bool)
-        → most (more (more (cond v (Some 0) None))) (most (Some 1)
-        (most (more (more (cond w (Some 0) None))) (most (more (more (cond x (Some 0) None))) None)))
+        → most (second v) (most (Some 1)
+        (most (second w) (most (second x) None)))
         ≡ some_len (cond (w || v || x) 2 1)
     at true true true = refl
     at true true false = refl
@@ -96,8 +106,8 @@ greater (c ∷ cs) = at (c == 61) (c == 62)
   where
     at :
         (v w : Bool)
-        → most (Some 1) (most (more (more (cond v (Some 0) None)))
-        (most (more (more (cond w (Some 0) None))) None))
+        → most (Some 1) (most (second v)
+        (most (second w) None))
         ≡ some_len (cond (v || w) 2 1)
     at true true = refl
     at true false = refl
@@ -109,7 +119,7 @@ unfolding symbol_len
 not_equal [] = refl
 not_equal (c ∷ cs) = at (c == 61)
   where
-    at : (v : Bool) → most (more (more (cond v (Some 0) None))) None ≡ some_len (cond v 2 0)
+    at : (v : Bool) → most (second v) None ≡ some_len (cond v 2 0)
     at true = refl
     at false = refl
 
@@ -120,7 +130,7 @@ bar (c ∷ cs) = at (c == 124)
   where
     at :
         (v : Bool)
-        → most (more (more (cond v (Some 0) None))) (most (Some 1) None) ≡ some_len (cond v 2 1)
+        → most (second v) (most (Some 1) None) ≡ some_len (cond v 2 1)
     at true = refl
     at false = refl
 

@@ -3,7 +3,7 @@ use Rattle.std.specs.Prelude.{ℕ, ◌≡◌, ◌⊎◌, Option, None, Some, Lis
 use Rattle.sql_tokens.specs.Pieces.{piece_at}
 use Rattle.sql_tokens.specs.declared.token.TokenKind.{TokenKind}
 use Rattle.sql_tokens.specs.declared.token.TokenKind.TheVariants as kind
-use Rattle.token_laws.specs.Forms.{spaces, line_comment, word}
+use Rattle.token_laws.specs.Forms.{word}
 use Rattle.token_laws.specs.Kinds.{IsLongest, IsSkipped, IsNumber, IsBetweenQuotes, IsQuoted}
 use Rattle.token_laws.specs.Kinds.{IsBlob, IsParameter, IsSymbol}
 use Rattle.token_laws.specs.BadTokens.{IsUnclosed, IsUnpairedBlob, IsJoinedNumber}

@@ -10,7 +10,8 @@ pub returns-clause-first : goal.returns-clause-first
 returns-clause-first c = piece_first
 
 pub returns-clause-only : goal.returns-clause-only
-returns-clause-only c = λ b bs p h. one_piece table (b ∷ bs) p (piece_at (b ∷ bs)) h (piece_first b bs)
+returns-clause-only c =
+    λ b bs p h. one_piece table (b ∷ bs) p (piece_at (b ∷ bs)) h (piece_first b bs)
 
 pub returns-clause-one_length : goal.returns-clause-one_length
 returns-clause-one_length c = one_length
