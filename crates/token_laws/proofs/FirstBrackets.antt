@@ -108,7 +108,7 @@ bracket_at_bracket bs = at _ refl
               refl,
               inr (inr (inr (inr (
                 refl,
-                λ m f. absurd (cc (none_passes bracketed (91 ∷ bs) m none f.0, f.1)),
+                λ m le. none_passes bracketed (91 ∷ bs) m none le,
               )))),
             ),
           ),

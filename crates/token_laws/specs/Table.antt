@@ -11,8 +11,8 @@ use Rattle.token_laws.specs.BadTokens.{IsWrongParameter}
 use Rattle.token_laws.specs.Rows.{Row}
 use Rattle.token_laws.specs.Rows as row
 
--- The order counts where two rows fit: a blob, closed or not, begins as a word does, a comment as
--- a symbol, and a number as a point.
+-- The order counts where two rows fit: a blob, also one that went wrong, begins as a word does, and
+-- a number as a point.
 abbrev pub table : List Row
 table =
     row.spaces ∷ row.line_comment ∷ row.block_comment ∷ row.text ∷ row.blob ∷ row.unpaired_blob
