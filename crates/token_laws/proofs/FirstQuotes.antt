@@ -17,10 +17,10 @@ use Rattle.token_laws.specs.Rows.{Row}
 use Rattle.token_laws.specs.Rows as row
 use Rattle.token_laws.specs.Table.{IsFirst}
 use Rattle.token_laws.proofs.Blobs.{all_even, pairs_are}
-use Rattle.token_laws.proofs.Lengths.{right_of}
+use Rattle.token_laws.proofs.Booleans.{left_of, right_of}
 use Rattle.token_laws.proofs.Longest.{longest_within, passes, no_longer}
 use Rattle.token_laws.proofs.OneLength.{closed_len, closed_once}
-use Rattle.token_laws.proofs.Openers.{unfit, left_of, front_byte}
+use Rattle.token_laws.proofs.Openers.{unfit, front_byte}
 use Rattle.token_laws.proofs.Quotes.{found, same_is}
 
 pub longest_is : (f : Form) (bs : List ℕ) (n : ℕ) → longest f bs ≡ Some n → IsLongest f bs n

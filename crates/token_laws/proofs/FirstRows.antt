@@ -21,9 +21,9 @@ use Rattle.token_laws.proofs.FirstNumbers.{some_len_is, number_first, numbered_f
 use Rattle.token_laws.proofs.FirstQuotes.{behind_spaces, behind_lines, behind_text, behind_blobs}
 use Rattle.token_laws.proofs.FirstQuotes.{behind_quoted, behind_word, behind_numbers}
 use Rattle.token_laws.proofs.FirstQuotes.{text_first, blob_first, quoted_first, longest_is}
-use Rattle.token_laws.proofs.Lengths.{right_of}
+use Rattle.token_laws.proofs.Booleans.{left_of, right_of}
 use Rattle.token_laws.proofs.Numbers.{number_is}
-use Rattle.token_laws.proofs.Openers.{opens, unfit, left_of}
+use Rattle.token_laws.proofs.Openers.{opens, unfit}
 use Rattle.token_laws.proofs.Runs.{spaces_are, word_is, line_is, some_len}
 use Rattle.token_laws.proofs.Symbols.{symbol_is}
 

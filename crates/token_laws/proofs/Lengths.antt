@@ -16,6 +16,7 @@ use Rattle.sql_tokens.specs.PieceType.{Piece}
 use Rattle.sql_tokens.specs.declared.token.TokenKind.{TokenKind}
 use Rattle.sql_tokens.specs.declared.token.TokenKind.TheVariants as kind
 use Rattle.token_laws.specs.Forms.{number, doubled}
+use Rattle.token_laws.proofs.Booleans.{right_of}
 use Rattle.token_laws.proofs.Longest.{longest_within}
 use Rattle.token_laws.proofs.Runs.{some_len}
 use Rattle.token_laws.proofs.Numbers.{number_is}
@@ -33,10 +34,6 @@ chosen n false p q h g = g
 shorter : (n : ℕ) (v : Bool) (k m : ℕ) → k ≤ n → m ≤ n → cond v k m ≤ n
 shorter n true k m h g = h
 shorter n false k m h g = g
-
-pub right_of : (v w : Bool) → (v && w) ≡ true → w ≡ true
-right_of true w h = h
-right_of false w h = absurd (cc)
 
 not_empty : (b : ℕ) (bs : List ℕ) → begins b bs ≡ true → 1 ≤ length bs
 not_empty b [] h = absurd (cc)

@@ -1,3 +1,4 @@
+pub mod Booleans
 pub mod Longest
 pub mod Runs
 pub mod Numbers

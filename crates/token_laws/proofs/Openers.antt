@@ -11,25 +11,11 @@ use Rattle.token_laws.specs.BadTokens.{OpensQuoted, OpensBlob, OpensBracket}
 use Rattle.token_laws.specs.Rows.{Row}
 use Rattle.token_laws.specs.Rows as row
 use Rattle.token_laws.specs.Table.{BeginsWith}
-use Rattle.token_laws.proofs.Lengths.{right_of}
+use Rattle.token_laws.proofs.Booleans.{right_of, left_of, both, first_or, or_second}
 use Rattle.token_laws.proofs.Longest.{none_passes}
 use Rattle.token_laws.proofs.Numbers.{number_is}
 use Rattle.token_laws.proofs.Runs.{some_len, not_zero}
 use Rattle.token_laws.proofs.Symbols.{symbol_is}
-
-pub left_of : (v w : Bool) → (v && w) ≡ true → v ≡ true
-left_of true w h = refl
-left_of false w h = absurd (cc)
-
-both : (v w : Bool) → v ≡ true → w ≡ true → (v && w) ≡ true
-both v w h g = rw (h, g) refl
-
-first_or : (v w : Bool) → v ≡ true → (v || w) ≡ true
-first_or v w h = rw h refl
-
-or_second : (v w : Bool) → w ≡ true → (v || w) ≡ true
-or_second true w h = refl
-or_second false w h = h
 
 -- the first byte of a front that has such a form
 pub front_byte :
