@@ -1,8 +1,9 @@
 -- A comment ends at its first `*/`.
-use Rattle.std.proofs.Common.{◌≡◌, ℕ, zero, suc, ◌+◌, ◌<◌, ◌≤◌, ◌==◌, ◌&&◌, ◌||◌, cond, ◌⊎◌, inl, inr}
-use Rattle.std.proofs.Common.{Bool, true, false, List, [], ◌∷◌, length, take, drop, refl, ap, ◌∙◌, arith}
-use Rattle.sql_tokens.specs.Runs.{begins, comment_len, behind_star_len}
+use Rattle.std.proofs.Common.{◌≡◌, ℕ, zero, suc, ◌+◌, ◌<◌, ◌==◌, cond, ◌⊎◌, inl, inr}
+use Rattle.std.proofs.Common.{Bool, true, false, List, [], ◌∷◌, length, take, refl, ap, ◌∙◌, arith}
+use Rattle.sql_tokens.specs.Runs.{comment_len, behind_star_len}
 use Rattle.token_laws.specs.Kinds.{has_comment_end, IsCommentRest}
+use Rattle.token_laws.proofs.Booleans.{or_second}
 use Rattle.token_laws.proofs.Lengths.{comment_within}
 
 -- No shorter front has the end; nor where a `*` stands before it.
@@ -51,10 +52,6 @@ one_more b bs n false is (inl h) =
     inl (ap (λ k. has_comment_end (take k (b ∷ bs))) one ∙ rw is h)
 one_more b bs n v is (inr e) = inr (omega (arith, e))
 
-or_true : (v w : Bool) → w ≡ true → (v || w) ≡ true
-or_true true w h = refl
-or_true false w h = h
-
 -- The end stands there, or nowhere; so too where a `*` stands before it.
 abbrev Ended : List ℕ → Type 0
 Ended bs =
@@ -67,7 +64,7 @@ starred :
     (b : ℕ) (bs : List ℕ) (n : ℕ)
     → (has_comment_end (take n (b ∷ bs)) ≡ true ⊎ n ≡ suc (length bs))
     → (has_comment_end (42 ∷ take n (b ∷ bs)) ≡ true ⊎ n ≡ suc (length bs))
-starred b bs n (inl h) = inl (or_true _ (has_comment_end (take n (b ∷ bs))) h)
+starred b bs n (inl h) = inl (or_second _ (has_comment_end (take n (b ∷ bs))) h)
 starred b bs n (inr e) = inr e
 
 ended_first :

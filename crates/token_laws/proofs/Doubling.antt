@@ -1,8 +1,8 @@
 -- What a text between quotes means is what was written with each quote doubled.
-use Rattle.std.proofs.Common.{◌≡◌, ℕ, ◌+◌, ◌-◌, ◌==◌, Bool, true, false, cond, List, [], ◌∷◌, ◌++◌}
+use Rattle.std.proofs.Common.{◌≡◌, ℕ, ◌-◌, ◌==◌, Bool, true, false, cond, List, [], ◌∷◌, ◌++◌}
 use Rattle.std.proofs.Common.{length, take, refl, ap, sym, ◌∙◌, arith, length-append}
 use Rattle.std.proofs.Math.Seq.{take-append_seam}
-use Rattle.sql_tokens.specs.TokenValues.{undoubled, undoubled_behind, front, quoted_value}
+use Rattle.sql_tokens.specs.TokenValues.{undoubled, front, quoted_value}
 use Rattle.token_laws.specs.Forms.{doubled}
 use Rattle.token_laws.proofs.Quotes.{same_byte, same_is}
 

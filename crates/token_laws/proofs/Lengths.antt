@@ -1,10 +1,10 @@
 -- Each piece has a byte, and lies within the bytes.
-use Rattle.std.proofs.Common.{◌≡◌, ℕ, zero, suc, ◌+◌, ◌*◌, ◌<◌, ◌≤◌, ◌==◌, ◌&&◌, ◌||◌, cond, not}
-use Rattle.std.proofs.Common.{Bool, true, false, Option, None, Some, List, [], ◌∷◌, length, drop, take}
-use Rattle.std.proofs.Common.{refl, ap, sym, ◌∙◌, arith, length-drop, length-append}
+use Rattle.std.proofs.Common.{◌≡◌, ℕ, zero, suc, ◌+◌, ◌<◌, ◌≤◌, ◌==◌, ◌&&◌, ◌||◌, cond, not}
+use Rattle.std.proofs.Common.{Bool, true, false, Option, None, Some, List, [], ◌∷◌, length, drop}
+use Rattle.std.proofs.Common.{refl, ap, ◌∙◌, arith, length-drop, length-append}
 use Rattle.std.specs.Prelude.{nat_lt}
 use Rattle.std.specs.List.{prefix_len}
-use Rattle.std.specs.Char.{is_ascii_digit, is_ascii_hexdigit}
+use Rattle.std.specs.Char.{is_ascii_digit}
 use Rattle.std.proofs.lemmas.List.Sums.{prefix_len-le-length}
 use Rattle.sql_tokens.specs.Characters.{is_space_byte, is_word_start, is_word_byte}
 use Rattle.sql_tokens.specs.Runs.{begins, inside_len, comment_len, behind_star_len}
@@ -16,6 +16,7 @@ use Rattle.sql_tokens.specs.PieceType.{Piece}
 use Rattle.sql_tokens.specs.declared.token.TokenKind.{TokenKind}
 use Rattle.sql_tokens.specs.declared.token.TokenKind.TheVariants as kind
 use Rattle.token_laws.specs.Forms.{number, doubled}
+use Rattle.token_laws.proofs.Booleans.{right_of}
 use Rattle.token_laws.proofs.Longest.{longest_within}
 use Rattle.token_laws.proofs.Runs.{some_len}
 use Rattle.token_laws.proofs.Numbers.{number_is}
@@ -33,10 +34,6 @@ chosen n false p q h g = g
 shorter : (n : ℕ) (v : Bool) (k m : ℕ) → k ≤ n → m ≤ n → cond v k m ≤ n
 shorter n true k m h g = h
 shorter n false k m h g = g
-
-pub right_of : (v w : Bool) → (v && w) ≡ true → w ≡ true
-right_of true w h = h
-right_of false w h = absurd (cc)
 
 not_empty : (b : ℕ) (bs : List ℕ) → begins b bs ≡ true → 1 ≤ length bs
 not_empty b [] h = absurd (cc)

@@ -1,3 +1,4 @@
+pub mod Booleans
 pub mod Longest
 pub mod Runs
 pub mod Numbers
@@ -5,5 +6,16 @@ pub mod Quotes
 pub mod Doubling
 pub mod Lengths
 pub mod Comments
+pub mod Symbols
+pub mod Blobs
+pub mod ParameterNumbers
+pub mod Openers
+pub mod OneLength
+pub mod FirstQuotes
+pub mod FirstBrackets
+pub mod FirstNumbers
+pub mod FirstRows
+pub mod OnePiece
 pub mod KindForms
 pub mod CutLaws
+pub mod BadForms

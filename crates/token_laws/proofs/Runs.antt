@@ -2,12 +2,13 @@
 use Rattle.std.proofs.Common.{◌≡◌, ℕ, zero, suc, ◌+◌, cond, not, Bool, true, false, ◌||◌, ◌&&◌, ◌==◌, ◌++◌, List, [], ◌∷◌, None, Some, length, drop, refl, ap, sym, ◌∙◌, arith, rules}
 use Rattle.std.specs.Prelude.{Option}
 use Rattle.std.specs.List.{prefix_len}
-use Rattle.std.specs.Char.{is_ascii_digit, is_ascii_hexdigit}
+use Rattle.std.specs.Char.{is_ascii_hexdigit}
 use Rattle.sql_tokens.specs.Characters.{is_space_byte, is_word_start, is_word_byte}
 use Rattle.sql_tokens.specs.Runs.{begins, inside_len, behind_quote_len}
 use Rattle.sql_tokens.specs.Pieces.{hex_len}
 use Rattle.token_laws.specs.Form.{nothing, byte_then, run_then, some_then, longer, longest}
-use Rattle.token_laws.specs.Forms.{is, spaces, line_comment, word, digits, hexadecimal, doubled}
+use Rattle.token_laws.specs.Forms.{is, spaces, line_comment, word, hexadecimal, doubled}
+use Rattle.token_laws.proofs.Quotes.{same_byte}
 use Rattle.token_laws.proofs.Longest.{of_nothing, of_byte, of_run, more, plus}
 
 run_end : (t : ℕ → Bool) (bs : List ℕ) → longest (run_then t nothing) bs ≡ Some (prefix_len t bs)
@@ -35,9 +36,6 @@ line_is b c bs = of_byte (is 45) (byte_then (is 45) (run_then (λ d. not (d == 1
     ends false w n = refl
 
 -- A quoted text: what is found closes at the first quote that is not doubled.
-same_byte : (q : ℕ) → (q == q) ≡ true
-same_byte q = search rules
-
 not_next : (q : ℕ) (rest : List ℕ) → begins q rest ≡ false → behind_quote_len q rest ≡ Some 0
 not_next q [] e = refl
 not_next q (c ∷ cs) e = rw e refl
@@ -49,10 +47,6 @@ closed_found q (b ∷ v) rest e = at (b == q) refl (closed_found q v rest e)
     at : (w : Bool) → (b == q) ≡ w → inside_len q (doubled q v ++ (q ∷ rest)) ≡ Some (length (doubled q v) + 1) → inside_len q (cond w (q ∷ q ∷ doubled q v) (b ∷ doubled q v) ++ (q ∷ rest)) ≡ Some (length (cond w (q ∷ q ∷ doubled q v) (b ∷ doubled q v)) + 1)
     at true is later = rw (same_byte q, later) (ap Some (omega arith))
     at false is later = rw (is, later) (ap Some (omega arith))
-
--- A number.
-digits_are : (b : ℕ) (bs : List ℕ) → longest digits (b ∷ bs) ≡ cond (is_ascii_digit b) (Some (1 + prefix_len is_ascii_digit bs)) None
-digits_are b bs = byte_run is_ascii_digit is_ascii_digit b bs
 
 -- a length that is 0 where there is none
 abbrev pub some_len : ℕ → Option ℕ

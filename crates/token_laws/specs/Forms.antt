@@ -1,5 +1,6 @@
 -- The forms of the tokens.
 use Rattle.std.specs.Prelude.{ℕ, Bool, true, false, not, ◌==◌, ◌&&◌, ◌||◌, cond, List, [], ◌∷◌, ◌≡◌, ◌+◌, ◌++◌, length}
+use Rattle.std.specs.Prelude.{map, codes}
 use Rattle.std.specs.Char.{is_ascii_digit, is_ascii_hexdigit}
 use Rattle.sql_tokens.specs.Characters.{is_space_byte, is_word_start, is_word_byte}
 use Rattle.sql_tokens.specs.Runs.{begins}
@@ -16,6 +17,16 @@ line_comment = byte_then (is 45) (byte_then (is 45) (run_then (λ c. not (c == 1
 
 abbrev pub word : Form
 word = byte_then is_word_start (run_then is_word_byte nothing)
+
+-- bytes that a word may go on with
+abbrev pub word_bytes : Form
+word_bytes = some_then is_word_byte nothing
+
+-- pairs of hexadecimal digits
+abbrev pub pairs : Form
+pairs [] = true
+pairs (a ∷ []) = false
+pairs (a ∷ b ∷ bs) = is_ascii_hexdigit a && is_ascii_hexdigit b && pairs bs
 
 -- bytes with each quote doubled, and then the quote
 abbrev mutual
@@ -58,6 +69,25 @@ numbered_parameter = byte_then (is 63) (run_then is_ascii_digit nothing)
 -- `:`, `@` or `$` and bytes that a word may go on with
 abbrev pub named_parameter : Form
 named_parameter = byte_then (λ b. b == 58 || b == 64 || b == 36) (some_then is_word_byte nothing)
+
+-- these bytes and no others
+abbrev pub exactly : List ℕ → Form
+exactly [] = nothing
+exactly (c ∷ cs) = byte_then (is c) (exactly cs)
+
+-- one of these
+abbrev pub one_of : List (List ℕ) → Form
+one_of [] bs = false
+one_of (word ∷ words) bs = exactly word bs || one_of words bs
+
+abbrev pub symbols : List (List ℕ)
+symbols = map codes (
+    "(" ∷ ")" ∷ "," ∷ ";" ∷ "." ∷ "+" ∷ "-" ∷ "*" ∷ "/" ∷ "%"
+    ∷ "=" ∷ "==" ∷ "<>" ∷ "!=" ∷ "<" ∷ "<=" ∷ ">" ∷ ">="
+    ∷ "||" ∷ "|" ∷ "&" ∷ "<<" ∷ ">>" ∷ "~" ∷ "->" ∷ "->>" ∷ [])
+
+abbrev pub symbol : Form
+symbol = one_of symbols
 
 -- each quote doubled
 abbrev pub doubled : ℕ → List ℕ → List ℕ

@@ -1,16 +1,12 @@
--- What the pieces of each kind are, apart from how they are found.
-use Rattle.std.specs.Prelude.{ℕ, ◌≡◌, ◌+◌, ◌%◌, ◌<◌, ◌≤◌, ◌==◌, ◌&&◌, ◌||◌, ◌⊎◌, Bool, true, false}
-use Rattle.std.specs.Prelude.{Option, None, Some, List, [], ◌∷◌, length, take, drop}
-use Rattle.std.specs.List.{prefix_len}
-use Rattle.std.specs.Char.{is_ascii_hexdigit}
+-- What the tokens of each kind are, apart from how they are found.
+use Rattle.std.specs.Prelude.{ℕ, ◌≡◌, ◌+◌, ◌<◌, ◌≤◌, ◌==◌, ◌&&◌, ◌||◌, ◌⊎◌, Bool, true, false}
+use Rattle.std.specs.Prelude.{nat_lt, nat_le, List, [], ◌∷◌, length, take, drop}
+use Rattle.sql_meaning.specs.Numbers.{digits_behind}
 use Rattle.sql_tokens.specs.Characters.{is_word_byte}
 use Rattle.sql_tokens.specs.Runs.{begins}
-use Rattle.sql_tokens.specs.Pieces.{piece_at}
-use Rattle.sql_tokens.specs.declared.token.TokenKind.{TokenKind}
-use Rattle.sql_tokens.specs.declared.token.TokenKind.TheVariants as kind
 use Rattle.token_laws.specs.Form.{Form}
-use Rattle.token_laws.specs.Forms.{Closed, number, spaces, line_comment, word, bracketed}
-use Rattle.token_laws.specs.Forms.{numbered_parameter, named_parameter}
+use Rattle.token_laws.specs.Forms.{Closed, number, spaces, line_comment, bracketed, pairs}
+use Rattle.token_laws.specs.Forms.{numbered_parameter, named_parameter, symbol}
 
 -- The first n bytes have the form, and no longer front of the bytes has it.
 abbrev pub IsLongest : Form → List ℕ → ℕ → Type 0
@@ -59,41 +55,36 @@ abbrev pub IsQuoted : List ℕ → ℕ → Type 0
 IsQuoted bytes n =
     IsBetweenQuotes 34 bytes n ⊎ (IsBetweenQuotes 96 bytes n ⊎ IsLongest bracketed bytes n)
 
+-- no digits, or digits that write a number from 1 to 32766
+abbrev pub passes_as_number : List ℕ → Bool
+passes_as_number [] = true
+passes_as_number (d ∷ ds) =
+    nat_lt 0 (digits_behind 0 (d ∷ ds)) && nat_le (digits_behind 0 (d ∷ ds)) 32766
+
+-- `?` and all digits behind it, whose number passes or doesn't
+abbrev pub IsNumbered : Bool → List ℕ → ℕ → Type 0
+IsNumbered passes bytes n =
+    IsLongest numbered_parameter bytes n × (passes_as_number (drop 1 (take n bytes)) ≡ passes)
+
 abbrev pub IsParameter : List ℕ → ℕ → Type 0
-IsParameter bytes n =
-    IsLongest numbered_parameter bytes n ⊎ IsLongest named_parameter bytes n
+IsParameter bytes n = IsNumbered true bytes n ⊎ IsLongest named_parameter bytes n
 
--- `x` or `X`, a quote, an even number of hexadecimal digits and the quote that closes
-abbrev pub IsBlob : List ℕ → ℕ → Type 0
-IsBlob bytes n =
-    let digits = prefix_len is_ascii_hexdigit (drop 2 bytes) in
+-- `x` or `X` directly before a text between quotes, whose inside is pairs of hexadecimal digits or
+-- isn't
+abbrev pub IsBlobOf : Bool → List ℕ → ℕ → Type 0
+IsBlobOf paired bytes n =
     ((begins 120 bytes || begins 88 bytes) ≡ true) × (begins 39 (drop 1 bytes) ≡ true)
-    × (digits % 2 ≡ 0) × Closed 39 (drop 2 bytes) (digits + 1) × (n ≡ digits + 1 + 2)
+    × ((m : ℕ) × ((n ≡ m + 3) × Closed 39 (drop 2 bytes) (m + 1)
+    × (pairs (take m (drop 2 bytes)) ≡ paired)))
 
--- where the piece at the front is of this kind, its bytes are this
-abbrev pub OfKind : Option TokenKind → (List ℕ → ℕ → Type 0) → Type 0
-OfKind k IsForm =
-    (b : ℕ) (bs : List ℕ)
-    → (piece_at (b ∷ bs)).kind ≡ k
-    → IsForm (b ∷ bs) (piece_at (b ∷ bs)).len
+abbrev pub IsBlob : List ℕ → ℕ → Type 0
+IsBlob = IsBlobOf true
 
-abbrev pub SkippedIsSpaceOrComment : Type 0
-SkippedIsSpaceOrComment = OfKind None IsSkipped
+-- `--` or `/*` stands first
+abbrev pub begins_comment : List ℕ → Bool
+begins_comment bytes =
+    (begins 45 bytes && begins 45 (drop 1 bytes)) || (begins 47 bytes && begins 42 (drop 1 bytes))
 
-abbrev pub WordIsLongest : Type 0
-WordIsLongest = OfKind (Some kind.Word) (IsLongest word)
-
-abbrev pub NumberIsLongest : Type 0
-NumberIsLongest = OfKind (Some kind.Number) IsNumber
-
-abbrev pub TextIsBetweenQuotes : Type 0
-TextIsBetweenQuotes = OfKind (Some kind.Text) (IsBetweenQuotes 39)
-
-abbrev pub QuotedIsBetweenQuotes : Type 0
-QuotedIsBetweenQuotes = OfKind (Some kind.Quoted) IsQuoted
-
-abbrev pub BlobIsOfPairs : Type 0
-BlobIsOfPairs = OfKind (Some kind.Blob) IsBlob
-
-abbrev pub ParameterIsLongest : Type 0
-ParameterIsLongest = OfKind (Some kind.Parameter) IsParameter
+-- the longest of the symbols, where no comment begins
+abbrev pub IsSymbol : List ℕ → ℕ → Type 0
+IsSymbol bytes n = (begins_comment bytes ≡ false) × IsLongest symbol bytes n

@@ -23,3 +23,9 @@ returns-clause-blobs c = of_kind (Some kind.Blob)
 
 pub returns-clause-parameters : goal.returns-clause-parameters
 returns-clause-parameters c = of_kind (Some kind.Parameter)
+
+pub returns-clause-symbols : goal.returns-clause-symbols
+returns-clause-symbols c = of_kind (Some kind.Symbol)
+
+pub returns-clause-bad : goal.returns-clause-bad
+returns-clause-bad c = of_kind (Some kind.Bad)
