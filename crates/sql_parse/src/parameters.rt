@@ -82,8 +82,8 @@ impl Parameters {
     fn add(&mut self, alloc: Global, name: &[u8], number: u32) -> Result<(), Memory>
         requires { number_named name.now self.old.named ≡ None }
         ensures { OnOk result (self.new ≡ record {
-            greatest = self.old.greatest;
-            named = self.old.named ++ (name.now, number) ∷ [];
+          greatest = self.old.greatest;
+          named = self.old.named ++ (name.now, number) ∷ [];
         }) }
     {
         let key = owned(alloc, name)?;

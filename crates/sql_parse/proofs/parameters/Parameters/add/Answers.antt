@@ -1,4 +1,4 @@
-use Rattle.std.proofs.Common.{◌≡◌, None, [], ◌∷◌, ◌++◌, ap, sym, ◌∙◌}
+use Rattle.std.proofs.Common.{◌≡◌, None, [], ◌∷◌, ◌++◌, ap, ◌∙◌}
 use Rattle.sql_parse.specs.Parameters.{number_named}
 use Rattle.sql_parse.proofs.NamedParameters.{seen_names, added, met_with}
 use Rattle.sql_parse.proofs.parameters.Parameters.add.Goals as goal
