@@ -1,5 +1,6 @@
 -- The scan takes what spells an expression.
-use Rattle.std.proofs.Common.{◌≡◌, Bool, true, false, List, [], ◌∷◌, ◌++◌, refl, ap, sym, ◌∙◌, subst, append_assoc}
+use Rattle.std.proofs.Common.{◌≡◌, Bool, true, false, List, [], ◌∷◌, ◌++◌, refl, ap, sym, ◌∙◌}
+use Rattle.std.proofs.Common.{subst, append_assoc}
 use Rattle.sql_tree.specs.Trees.{Tree}
 use Rattle.sql_tree.specs.declared.expression.Op.{Op}
 use Rattle.sql_meaning.specs.Values.{Value}
@@ -10,7 +11,8 @@ use Rattle.sql_read.specs.Lexemes as lexeme
 use Rattle.sql_parse.specs.Grammar.{Level, Spells, Members, IsOp, IsNullTest, IsNumber, perhaps_not}
 use Rattle.sql_parse.specs.Grammar as g
 use Rattle.sql_parse.proofs.Complete.{parts}
-use Rattle.grammar_laws.proofs.Scan.{Class, Kind, Phase, Takes, Before, Behind, mark_class, lexeme_class}
+use Rattle.grammar_laws.proofs.Scan.{Class, Kind, Phase, Takes, Before, Behind, mark_class}
+use Rattle.grammar_laws.proofs.Scan.{lexeme_class}
 use Rattle.grammar_laws.proofs.Scan.{may_come, phase_behind, stack_behind}
 use Rattle.grammar_laws.proofs.Scan as scan
 
@@ -31,7 +33,9 @@ RestBehind k bs rest c =
     (q : Phase) → Behind q
     → (may_come k q bs c ≡ true) × Goes k (phase_behind q c) (stack_behind q c bs) rest
 
-behind_word : (k : Kind) (bs : List Bool) (rest : List Lexeme) → Goes k scan.Anew bs rest → RestBehind k bs rest scan.Word
+behind_word :
+    (k : Kind) (bs : List Bool) (rest : List Lexeme) → Goes k scan.Anew bs rest
+    → RestBehind k bs rest scan.Word
 unfolding may_come phase_behind stack_behind
 behind_word k bs rest h _ scan.named = (refl, h)
 behind_word k bs rest h _ scan.ended = (refl, h)
@@ -53,15 +57,18 @@ op_class g.gt = refl
 op_class g.ge = refl
 
 behind_null_test :
-    (k : Kind) (bs : List Bool) {neg : Bool} {ms : List Lexeme} (rest : List Lexeme) → IsNullTest neg ms
+    (k : Kind) (bs : List Bool) {neg : Bool} {ms : List Lexeme} (rest : List Lexeme)
+    → IsNullTest neg ms
     → Rest k bs rest → Rest k bs (ms ++ rest)
 unfolding lexeme_class mark_class may_come phase_behind stack_behind
 behind_null_test k bs rest g.is_null h _ scan.named = (refl, (refl, h scan.Ended scan.ended))
 behind_null_test k bs rest g.is_null h _ scan.ended = (refl, (refl, h scan.Ended scan.ended))
 behind_null_test k bs rest g.isnull h _ scan.named = (refl, h scan.Ended scan.ended)
 behind_null_test k bs rest g.isnull h _ scan.ended = (refl, h scan.Ended scan.ended)
-behind_null_test k bs rest g.is_not_null h _ scan.named = (refl, (refl, (refl, h scan.Ended scan.ended)))
-behind_null_test k bs rest g.is_not_null h _ scan.ended = (refl, (refl, (refl, h scan.Ended scan.ended)))
+behind_null_test k bs rest g.is_not_null h _ scan.named =
+    (refl, (refl, (refl, h scan.Ended scan.ended)))
+behind_null_test k bs rest g.is_not_null h _ scan.ended =
+    (refl, (refl, (refl, h scan.Ended scan.ended)))
 behind_null_test k bs rest g.notnull h _ scan.named = (refl, h scan.Ended scan.ended)
 behind_null_test k bs rest g.notnull h _ scan.ended = (refl, h scan.Ended scan.ended)
 behind_null_test k bs rest g.not_null h _ scan.named = (refl, (refl, h scan.Ended scan.ended))
@@ -77,7 +84,8 @@ behind_between k bs true rest h _ scan.named = (refl, (refl, h))
 behind_between k bs true rest h _ scan.ended = (refl, (refl, h))
 
 behind_in :
-    (k : Kind) (bs : List Bool) (neg : Bool) (rest : List Lexeme) → Goes k scan.Anew (true ∷ bs) rest
+    (k : Kind) (bs : List Bool) (neg : Bool) (rest : List Lexeme)
+    → Goes k scan.Anew (true ∷ bs) rest
     → Rest k bs (perhaps_not neg mark.In ++ lexeme.Fixed mark.Open ∷ rest)
 unfolding lexeme_class mark_class may_come phase_behind stack_behind
 behind_in k bs false rest h _ scan.named = (refl, (refl, h))
@@ -127,7 +135,8 @@ unfolding lexeme_class mark_class may_come phase_behind stack_behind
 before_open k bs rest h _ scan.fresh = (refl, h)
 before_open k bs rest h _ scan.anew = (refl, h)
 
-number_class : {neg : Bool} {t : Lexeme} {v : Value} → IsNumber neg t v → lexeme_class t ≡ scan.Number
+number_class :
+    {neg : Bool} {t : Lexeme} {v : Value} → IsNumber neg t v → lexeme_class t ≡ scan.Number
 unfolding lexeme_class
 number_class (g.int e) = refl
 number_class (g.dec e) = refl
@@ -178,9 +187,11 @@ mutual
   expression (g.compared {ts} {fs} {bs = cs} {m = m} o s t e) k bs rest h p b =
       rw (parts ts fs (lexeme.Fixed m ∷ cs) rest e)
       (expression s k bs (lexeme.Fixed m ∷ (cs ++ rest))
-      (behind_mark k bs (cs ++ rest) m (op_class o) (expression t k bs rest h scan.Anew scan.anew)) p b)
+      (behind_mark k bs (cs ++ rest) m (op_class o)
+      (expression t k bs rest h scan.Anew scan.anew)) p b)
   expression (g.null_tested {ts} {fs} {ms} n s e) k bs rest h p b =
-      rw (parts ts fs ms rest e) (expression s k bs (ms ++ rest) (behind_null_test k bs rest n h) p b)
+      rw (parts ts fs ms rest e)
+      (expression s k bs (ms ++ rest) (behind_null_test k bs rest n h) p b)
   expression (g.between {ts} {fs} {bs = cs} {cs = ds} neg s t u e) k bs rest h p b =
       let ms = perhaps_not neg mark.Between in
       let inside : List Lexeme = cs ++ lexeme.Fixed mark.And ∷ ds in
@@ -205,9 +216,11 @@ mutual
       let q : List Lexeme = cs ++ lexeme.Fixed mark.Close ∷ rest in
       let whole : ts ++ rest ≡ fs ++ (ms ++ lexeme.Fixed mark.Open ∷ q) =
       parts ts fs (ms ++ inside) rest e ∙ ap (λ r. fs ++ r) (append_assoc ms inside rest
-      ∙ ap (λ r. ms ++ lexeme.Fixed mark.Open ∷ r) (append_assoc cs (lexeme.Fixed mark.Close ∷ []) rest)) in
+      ∙ ap (λ r. ms ++ lexeme.Fixed mark.Open ∷ r)
+      (append_assoc cs (lexeme.Fixed mark.Close ∷ []) rest)) in
       rw whole (expression s k bs (ms ++ lexeme.Fixed mark.Open ∷ q)
-      (behind_in k bs neg q (members t k (true ∷ bs) (parts_comma k bs) (lexeme.Fixed mark.Close ∷ rest)
+      (behind_in k bs neg q
+      (members t k (true ∷ bs) (parts_comma k bs) (lexeme.Fixed mark.Close ∷ rest)
       (behind_close k true bs rest h) scan.Anew scan.anew)) p b)
   expression (g.plus {ts} s) k bs rest h p b =
       before_plus k bs (ts ++ rest) (expression s k bs rest h scan.Anew scan.anew) p b
@@ -228,13 +241,16 @@ mutual
   expression (g.param n) k bs rest h _ scan.anew = (refl, h scan.Ended scan.ended)
   expression (g.column c d) k bs rest h _ scan.fresh = (refl, h scan.Named scan.named)
   expression (g.column c d) k bs rest h _ scan.anew = (refl, h scan.Named scan.named)
-  expression (g.qualified t c d e) k bs rest h _ scan.fresh = (refl, (refl, (refl, h scan.Ended scan.ended)))
-  expression (g.qualified t c d e) k bs rest h _ scan.anew = (refl, (refl, (refl, h scan.Ended scan.ended)))
+  expression (g.qualified t c d e) k bs rest h _ scan.fresh =
+      (refl, (refl, (refl, h scan.Ended scan.ended)))
+  expression (g.qualified t c d e) k bs rest h _ scan.anew =
+      (refl, (refl, (refl, h scan.Ended scan.ended)))
   expression (g.enclosed {ts} {es} s e) k bs rest h p b =
       let q : List Lexeme = es ++ lexeme.Fixed mark.Close ∷ rest in
       let whole : ts ++ rest ≡ lexeme.Fixed mark.Open ∷ q =
       ap (λ r. r ++ rest) e
-      ∙ ap (λ r. lexeme.Fixed mark.Open ∷ r) (append_assoc es (lexeme.Fixed mark.Close ∷ []) rest) in
+      ∙ ap (λ r. lexeme.Fixed mark.Open ∷ r)
+      (append_assoc es (lexeme.Fixed mark.Close ∷ []) rest) in
       rw whole (before_open k bs q (expression s k (false ∷ bs) (lexeme.Fixed mark.Close ∷ rest)
       (behind_close k false bs rest h) scan.Anew scan.anew) p b)
 

@@ -1,5 +1,6 @@
 -- A query has a FROM.
-use Rattle.std.proofs.Common.{◌≡◌, ℕ, Bool, true, false, not, ◌&&◌, ◌||◌, inl, inr, Some, List, [], ◌∷◌, ◌++◌, map, refl, sym, ◌∙◌, subst}
+use Rattle.std.proofs.Common.{◌≡◌, ℕ, Bool, true, false, not, ◌&&◌, inl, inr, Some, List, []}
+use Rattle.std.proofs.Common.{◌∷◌, ◌++◌, map, refl, sym, ◌∙◌, subst}
 use Rattle.std.specs.List.{list_any}
 use Rattle.sql_value.specs.declared.keywords.Keyword.TheVariants as keyword
 use Rattle.sql_tokens.specs.declared.terminal.Terminal.{Terminal}
@@ -15,9 +16,11 @@ use Rattle.sql_parse.specs.Parameters.{Met}
 use Rattle.sql_parse.specs.Statements.{IsSpelled}
 use Rattle.sql_parse.specs.Statements as s
 use Rattle.sql_parse.specs.TokenLexemes.{keyword_mark, lexeme_at, met_after, lexemes_from}
-use Rattle.grammar_laws.proofs.Scan.{Class, Kind, mark_class, lexeme_class, keyword_class, terminal_class}
+use Rattle.grammar_laws.proofs.Scan.{Class, Kind, mark_class, lexeme_class, keyword_class}
+use Rattle.grammar_laws.proofs.Scan.{terminal_class}
 use Rattle.grammar_laws.proofs.Scan as scan
 use Rattle.grammar_laws.proofs.Terminals.{keyword_is, same_class, means, class_means}
+use Rattle.grammar_laws.proofs.Places.{or_right}
 use Rattle.grammar_laws.proofs.Places.{either, not_true, both, isnt}
 
 abbrev is_from : Class → Bool
@@ -26,10 +29,6 @@ is_from _ = false
 
 abbrev has_from : List Lexeme → Bool
 has_from ts = list_any (λ l. is_from (lexeme_class l)) ts
-
-or_right : (a b : Bool) → b ≡ true → (a || b) ≡ true
-or_right true b e = refl
-or_right false b e = e
 
 behind : (fs ts : List Lexeme) → has_from ts ≡ true → has_from (fs ++ ts) ≡ true
 behind [] ts e = e
@@ -42,13 +41,18 @@ at_from ts = refl
 -- the first lexeme is of the grammar; behind SELECT there is a FROM
 abbrev IsWithFrom : List Lexeme → Type 0
 IsWithFrom [] = Unit {0}
-IsWithFrom (l ∷ ls) = (lexeme_class l ≡ scan.Select → has_from ls ≡ true) × (lexeme_class l ≡ scan.Other → ⊥)
+IsWithFrom (l ∷ ls) =
+    (lexeme_class l ≡ scan.Select → has_from ls ≡ true) × (lexeme_class l ≡ scan.Other → ⊥)
 
 with_from : {ts : List Lexeme} {tree : StatementTree} → IsSpelled ts tree → IsWithFrom ts
 unfolding lexeme_class mark_class
 with_from (s.select {qs = qs} {is = is} {ss = ss} {fs = fs} {ks = ks} {cs = cs} q i t f o c e) =
     let tail : List Lexeme = ss ++ (fs ++ (ks ++ cs)) in
-    rw e (λ h. behind qs (is ++ lexeme.Fixed mark.From ∷ tail) (behind is (lexeme.Fixed mark.From ∷ tail) (at_from tail)), λ h. cc)
+    rw e (
+      λ h. behind qs (is ++ lexeme.Fixed mark.From ∷ tail)
+          (behind is (lexeme.Fixed mark.From ∷ tail) (at_from tail)),
+      λ h. cc,
+    )
 with_from (s.update t u f e) = rw e (λ h. cc, λ h. cc)
 with_from (s.delete t f e) = rw e (λ h. cc, λ h. cc)
 
@@ -62,7 +66,8 @@ from_is _ e = cc
 other_apart : scan.Other ≡ scan.From → ⊥
 other_apart e = cc
 
-from_word : (text : List ℕ) (met : Met) (t : Token) → is_from (lexeme_class (lexeme_at text met t)) ≡ true →
+from_word :
+    (text : List ℕ) (met : Met) (t : Token) → is_from (lexeme_class (lexeme_at text met t)) ≡ true →
     is_keyword keyword.From (Some (terminal_of text t)) ≡ true
 unfolding lexeme_at
 from_word text met t e =
@@ -74,19 +79,24 @@ from_word text met t e =
     ]
 
 from_stands :
-    (text : List ℕ) (met : Met) (tokens : List Token) → has_from (lexemes_from text met tokens) ≡ true
+    (text : List ℕ) (met : Met) (tokens : List Token)
+    → has_from (lexemes_from text met tokens) ≡ true
     → has_from_word (map (terminal_of text) tokens) ≡ true
 from_stands text met [] e = cc
 from_stands text met (t ∷ ts) e =
-    elim (either (is_from (lexeme_class (lexeme_at text met t))) (has_from (lexemes_from text (met_after text met t) ts)) e) [
+    elim (either (is_from (lexeme_class (lexeme_at text met t)))
+    (has_from (lexemes_from text (met_after text met t) ts)) e) [
       | inl here ↦ rw (from_word text met t here) refl
-      | inr later ↦ or_right (is_keyword keyword.From (Some (terminal_of text t))) _ (from_stands text (met_after text met t) ts later)
+      | inr later ↦
+          or_right (is_keyword keyword.From (Some (terminal_of text t))) _
+          (from_stands text (met_after text met t) ts later)
     ]
 
 -- no query lacks its FROM
 pub no_query_without_from :
     (text : List ℕ) (met : Met) (tokens : List Token) (tree : StatementTree)
-    → IsSpelled (lexemes_from text met tokens) tree → lacks_from (map (terminal_of text) tokens) ≡ false
+    → IsSpelled (lexemes_from text met tokens) tree
+    → lacks_from (map (terminal_of text) tokens) ≡ false
 unfolding lexeme_at is_keyword keyword_class keyword_mark mark_class
 no_query_without_from text met [] tree spelled = refl
 no_query_without_from text met (t ∷ ts) tree spelled =
@@ -97,7 +107,9 @@ no_query_without_from text met (t ∷ ts) tree spelled =
     let are = both (is_keyword keyword.Select (Some u)) (not (has_from_word (u ∷ later))) e in
     elim (same_class u _ _ met) [
       | inl same ↦
-          let from = from_stands text (met_after text met t) ts (with.0 (same ∙ keyword_is keyword.Select u are.0)) in
-          isnt (has_from_word (u ∷ later)) are.1 (or_right (is_keyword keyword.From (Some u)) _ from)
+          let from = from_stands text (met_after text met t) ts
+          (with.0 (same ∙ keyword_is keyword.Select u are.0)) in
+          isnt (has_from_word (u ∷ later)) are.1
+          (or_right (is_keyword keyword.From (Some u)) _ from)
       | inr other ↦ with.1 other
     ])

@@ -1,5 +1,6 @@
 -- Patterns of terminals that stand beside each other.
-use Rattle.std.proofs.Common.{◌≡◌, Bool, true, false, not, ◌&&◌, ◌||◌, ◌⊎◌, inl, inr, Option, Some, List, [], ◌∷◌, refl, sym, subst}
+use Rattle.std.proofs.Common.{◌≡◌, Bool, true, false, not, ◌&&◌, ◌||◌, ◌⊎◌, inl, inr, Option, Some}
+use Rattle.std.proofs.Common.{List, [], ◌∷◌, refl, sym, subst}
 use Rattle.sql_value.specs.declared.keywords.Keyword.TheVariants as keyword
 use Rattle.sql_value.specs.Reserved.{is_reserved_word}
 use Rattle.sql_tokens.specs.declared.symbols.Symbol.TheVariants as symbol
@@ -15,7 +16,9 @@ use Rattle.grammar_laws.proofs.Scan.{mark_class, keyword_class, symbol_class, te
 use Rattle.grammar_laws.proofs.Scan as scan
 use Rattle.grammar_laws.proofs.Terminals.{keyword_is, symbol_is, free_word_is}
 use Rattle.grammar_laws.proofs.Terminals.{means, class_means}
-use Rattle.grammar_laws.proofs.Places.{NeverAt, Taken, either, both, second_false, false_true, isnt, comes, seen, among_is}
+use Rattle.grammar_laws.proofs.Places.{both_true}
+use Rattle.grammar_laws.proofs.Places.{NeverAt, Taken, either, both, second_false, false_true, isnt}
+use Rattle.grammar_laws.proofs.Places.{comes, seen, among_is}
 use Rattle.grammar_laws.proofs.Places.{no_word, no_words}
 
 -- what a terminal is, by its class
@@ -34,7 +37,9 @@ not_ended_is_not b = elim b [ ]
 
 -- no parenthesis behind a name
 
-uncalled : (k : Kind) (p : Phase) (bs : List Bool) → may_come k (phase_behind p scan.Name) bs scan.Open ≡ true → ⊥
+uncalled :
+    (k : Kind) (p : Phase) (bs : List Bool)
+    → may_come k (phase_behind p scan.Name) bs scan.Open ≡ true → ⊥
 unfolding may_come phase_behind
 uncalled k scan.Fresh bs e = cc
 uncalled k scan.Anew bs e = cc
@@ -66,26 +71,30 @@ no_cast k first p bs before t (u ∷ ts) b h e =
 pub no_window : (k : Kind) (first : Option Terminal) → NeverAt place_of k first fits_window
 unfolding fits_window is_symbol is_keyword keyword_class keyword_mark is_reserved_word
 no_window k first p bs before t [] b h e =
-    elim (either (is_keyword keyword.Window (Some t)) (is_symbol symbol.CloseParenthesis (Some t) && false && false) e) [
+    elim (either (is_keyword keyword.Window (Some t))
+    (is_symbol symbol.CloseParenthesis (Some t) && false && false) e) [
       | inl w ↦ no_word k p bs keyword.Window t refl h.0 w
       | inr w ↦ second_false (is_symbol symbol.CloseParenthesis (Some t) && false) w
     ]
 no_window k first p bs before t (u ∷ []) b h e =
     let over = is_keyword_among (keyword.Over ∷ keyword.Filter ∷ []) (Some u) in
-    elim (either (is_keyword keyword.Window (Some t)) (is_symbol symbol.CloseParenthesis (Some t) && over && false) e) [
+    elim (either (is_keyword keyword.Window (Some t))
+    (is_symbol symbol.CloseParenthesis (Some t) && over && false) e) [
       | inl w ↦ no_word k p bs keyword.Window t refl h.0 w
       | inr w ↦ second_false (is_symbol symbol.CloseParenthesis (Some t) && over) w
     ]
 no_window k first p bs before t (u ∷ v ∷ ts) b h e =
     let over = is_keyword_among (keyword.Over ∷ keyword.Filter ∷ []) (Some u) in
     let behind = is_symbol symbol.OpenParenthesis (Some v) in
-    elim (either (is_keyword keyword.Window (Some t)) (is_symbol symbol.CloseParenthesis (Some t) && over && behind) e) [
+    elim (either (is_keyword keyword.Window (Some t))
+    (is_symbol symbol.CloseParenthesis (Some t) && over && behind) e) [
       | inl w ↦ no_word k p bs keyword.Window t refl h.0 w
       | inr w ↦
           let last = both (is_symbol symbol.CloseParenthesis (Some t) && over) behind w in
           let name = both (is_symbol symbol.CloseParenthesis (Some t)) over last.0 in
           no_call k _ _ u v ts
-          (among_is scan.Name (keyword.Over ∷ keyword.Filter ∷ []) u (refl, (refl, tt)) name.1) h.1 last.1
+          (among_is scan.Name (keyword.Over ∷ keyword.Filter ∷ []) u
+          (refl, (refl, tt)) name.1) h.1 last.1
     ]
 
 -- SELECT, IN and IS
@@ -96,15 +105,19 @@ no_select k bs e = cc
 
 unqueried :
     (k : Kind) (p : Phase) (bs : List Bool) (t : Terminal) (ts : List Terminal)
-    → is_symbol symbol.OpenParenthesis (Some t) ≡ true → Taken k p bs (t ∷ ts) → (u : Terminal) (us : List Terminal)
-    → ts ≡ u ∷ us → is_keyword_among (keyword.Select ∷ keyword.With ∷ keyword.Values ∷ []) (Some u) ≡ true → ⊥
+    → is_symbol symbol.OpenParenthesis (Some t) ≡ true → Taken k p bs (t ∷ ts) → (u : Terminal)
+    (us : List Terminal)
+    → ts ≡ u ∷ us
+    → is_keyword_among (keyword.Select ∷ keyword.With ∷ keyword.Values ∷ []) (Some u) ≡ true → ⊥
 unfolding symbol_class symbol_mark mark_class phase_behind keyword_class keyword_mark is_reserved_word
 unqueried k p bs t ts there h u us e query =
     let rest = seen k p bs t ts scan.Open (symbol_is symbol.OpenParenthesis t there) h in
     let next = subst (λ r. Taken k scan.Anew (stack_behind p scan.Open bs) r) e rest.1 in
-    elim (either (is_keyword keyword.Select (Some u)) (is_keyword_among (keyword.With ∷ keyword.Values ∷ []) (Some u)) query) [
+    elim (either (is_keyword keyword.Select (Some u))
+    (is_keyword_among (keyword.With ∷ keyword.Values ∷ []) (Some u)) query) [
       | inl w ↦ no_select k _ (comes k scan.Anew _ keyword.Select u next.0 w)
-      | inr w ↦ no_words k scan.Anew _ (keyword.With ∷ keyword.Values ∷ []) u (refl, (refl, tt)) next.0 w
+      | inr w ↦
+          no_words k scan.Anew _ (keyword.With ∷ keyword.Values ∷ []) u (refl, (refl, tt)) next.0 w
     ]
 
 open_is : (c : Class) → scan.is_open c ≡ true → c ≡ scan.Open
@@ -114,7 +127,8 @@ open_is _ e = cc
 listed_in :
     (k : Kind) (p : Phase) (bs : List Bool) (t : Terminal) (ts : List Terminal)
     → is_keyword keyword.In (Some t) ≡ true → Taken k p bs (t ∷ ts)
-    → (u : Terminal) × (us : List Terminal) × (ts ≡ u ∷ us) × (is_symbol symbol.OpenParenthesis (Some u) ≡ true)
+    → (u : Terminal) × (us : List Terminal) × (ts ≡ u ∷ us) ×
+    (is_symbol symbol.OpenParenthesis (Some u) ≡ true)
 unfolding keyword_class keyword_mark mark_class phase_behind may_come
 listed_in k p bs t [] there h =
     absurd (not_ended_in (seen k p bs t [] scan.In (keyword_is keyword.In t there) h).1)
@@ -178,9 +192,6 @@ not_null true b e = cc
 not_null false true e = cc
 not_null false false e = (false_true, false_true)
 
-and_true : (a b : Bool) → a ≡ true → b ≡ true → (a && b) ≡ true
-and_true a b e f = rw (e, f) refl
-
 pub no_is : (k : Kind) (first : Option Terminal) → NeverAt place_of k first fits_is
 unfolding fits_is keyword_class keyword_mark mark_class phase_behind may_come
 no_is k first p bs before t [] b h e =
@@ -192,7 +203,9 @@ no_is k first p bs before t (u ∷ []) b h e =
     let apart = not_null (is_keyword keyword.Null (Some u)) _ no.1 in
     elim (null_or_not_is (terminal_class u) rest.1.0) [
       | inl w ↦ apart.0 (is_such scan.Null u w)
-      | inr w ↦ not_ended_is_not (seen k scan.AfterIs (stack_behind p scan.Is bs) u [] scan.Not w rest.1).1
+      | inr w ↦
+          not_ended_is_not
+          (seen k scan.AfterIs (stack_behind p scan.Is bs) u [] scan.Not w rest.1).1
     ]
 no_is k first p bs before t (u ∷ v ∷ vs) b h e =
     let no = both (is_keyword keyword.Is (Some t)) _ e in
@@ -201,7 +214,9 @@ no_is k first p bs before t (u ∷ v ∷ vs) b h e =
     elim (null_or_not_is (terminal_class u) rest.1.0) [
       | inl w ↦ apart.0 (is_such scan.Null u w)
       | inr w ↦
-          let behind = seen k scan.AfterIs (stack_behind p scan.Is bs) u (v ∷ vs) scan.Not w rest.1 in
+          let behind = seen k scan.AfterIs (stack_behind p scan.Is bs) u
+          (v ∷ vs) scan.Not w rest.1 in
           let null = is_such scan.Null v (null_is (terminal_class v) behind.1.0) in
-          apart.1 (and_true (is_keyword keyword.Not (Some u)) (is_keyword keyword.Null (Some v)) (is_such scan.Not u w) null)
+          apart.1 (both_true (is_keyword keyword.Not (Some u)) (is_keyword keyword.Null (Some v))
+          (is_such scan.Not u w) null)
     ]

@@ -4,7 +4,8 @@ use Rattle.sql_value.specs.declared.keywords.Keyword.TheVariants as keyword
 use Rattle.sql_value.specs.Reserved.{is_reserved_word}
 use Rattle.sql_tokens.specs.declared.symbols.Symbol.TheVariants as symbol
 use Rattle.sql_tokens.specs.declared.terminal.Terminal.{Terminal}
-use Rattle.sql_lex.specs.ExpressionPatterns.{fits_compound, fits_case, fits_like, fits_glob, fits_regexp}
+use Rattle.sql_lex.specs.ExpressionPatterns.{fits_compound, fits_case, fits_like, fits_glob}
+use Rattle.sql_lex.specs.ExpressionPatterns.{fits_regexp}
 use Rattle.sql_lex.specs.ExpressionPatterns.{fits_match, fits_current_time}
 use Rattle.sql_lex.specs.OperatorPatterns.{fits_group_by, fits_concatenation, fits_bit_operator}
 use Rattle.sql_lex.specs.OperatorPatterns.{fits_json_operator}

@@ -1,11 +1,13 @@
 -- Tests of places that hold nowhere in a statement that the scan takes.
-use Rattle.std.proofs.Common.{◌≡◌, Bool, true, false, not, ◌&&◌, ◌||◌, ◌⊎◌, inl, inr, Option, None, Some, List, [], ◌∷◌, refl, ◌∙◌, subst}
+use Rattle.std.proofs.Common.{◌≡◌, Bool, true, false, not, ◌&&◌, ◌||◌, ◌⊎◌, inl, inr, Option, None}
+use Rattle.std.proofs.Common.{Some, List, [], ◌∷◌, refl, ◌∙◌, subst}
 use Rattle.sql_value.specs.declared.keywords.Keyword.{Keyword}
 use Rattle.sql_tokens.specs.declared.symbols.Symbol.{Symbol}
 use Rattle.sql_tokens.specs.declared.terminal.Terminal.{Terminal}
 use Rattle.sql_lex.specs.Looks.{is_keyword, is_symbol, is_keyword_among, is_symbol_among}
 use Rattle.sql_lex.specs.Places.{place_of, fits_in}
-use Rattle.grammar_laws.proofs.Scan.{Class, Kind, Phase, Takes, may_come, phase_behind, stack_behind}
+use Rattle.grammar_laws.proofs.Scan.{Class, Kind, Phase, Takes, may_come, phase_behind}
+use Rattle.grammar_laws.proofs.Scan.{stack_behind}
 use Rattle.grammar_laws.proofs.Scan.{keyword_class, symbol_class, terminal_class}
 use Rattle.grammar_laws.proofs.Scan as scan
 use Rattle.grammar_laws.proofs.Terminals.{TakesFirst, no_other, keyword_is, symbol_is}
@@ -21,6 +23,16 @@ either false b e = inr e
 pub both : (a b : Bool) → (a && b) ≡ true → (a ≡ true) × (b ≡ true)
 both true b e = (refl, e)
 both false b e = cc
+
+pub both_true : (a b : Bool) → a ≡ true → b ≡ true → (a && b) ≡ true
+both_true a b e f = rw (e, f) refl
+
+pub or_left : (a b : Bool) → a ≡ true → (a || b) ≡ true
+or_left a b e = rw e refl
+
+pub or_right : (a b : Bool) → b ≡ true → (a || b) ≡ true
+or_right true b e = refl
+or_right false b e = e
 
 pub isnt : (a : Bool) → not a ≡ true → a ≡ true → ⊥
 isnt true e f = cc
@@ -45,7 +57,9 @@ Behind p None = p ≡ scan.Begin
 Behind p (Some t) = (q : Phase) × (p ≡ phase_behind q (terminal_class t))
 
 -- the test holds at no place of a statement that begins so
-abbrev pub NeverAt : {P : Type 0} → (Option Terminal → Option Terminal → List Terminal → P) → Kind → Option Terminal → (P → Bool) → Type 0
+abbrev pub NeverAt :
+    {P : Type 0} → (Option Terminal → Option Terminal → List Terminal → P) → Kind → Option Terminal
+    → (P → Bool) → Type 0
 NeverAt place k first test =
     (p : Phase) (bs : List Bool) (before : Option Terminal) (t : Terminal) (ts : List Terminal)
     → Behind p before → Taken k p bs (t ∷ ts) → test (place first before (t ∷ ts)) ≡ true → ⊥
@@ -58,7 +72,8 @@ fits_nowhere k first test never p bs before [] b h = refl
 fits_nowhere k first test never p bs before (t ∷ ts) b h =
     let c = terminal_class t in
     neither _ _ (not_true _ (never p bs before t ts b h))
-    (fits_nowhere k first test never (phase_behind p c) (stack_behind p c bs) (Some t) ts (p, refl) h.1)
+    (fits_nowhere k first test never (phase_behind p c) (stack_behind p c bs) (Some t) ts
+    (p, refl) h.1)
 
 pub nowhere :
     (k : Kind) (first : Option Terminal) (test : _) → NeverAt place_of k first test
@@ -74,13 +89,15 @@ comes k p bs w t h e = subst (λ c. may_come k p bs c ≡ true) (keyword_is w t 
 
 -- a word that the grammar hasn't
 pub no_word :
-    (k : Kind) (p : Phase) (bs : List Bool) (w : Keyword) (t : Terminal) → keyword_class w ≡ scan.Other
+    (k : Kind) (p : Phase) (bs : List Bool) (w : Keyword) (t : Terminal)
+    → keyword_class w ≡ scan.Other
     → may_come k p bs (terminal_class t) ≡ true → is_keyword w (Some t) ≡ true → ⊥
 no_word k p bs w t other h e =
     no_other k p bs (subst (λ c. may_come k p bs c ≡ true) other (comes k p bs w t h e))
 
 pub no_symbol :
-    (k : Kind) (p : Phase) (bs : List Bool) (s : Symbol) (t : Terminal) → symbol_class s ≡ scan.Other
+    (k : Kind) (p : Phase) (bs : List Bool) (s : Symbol) (t : Terminal)
+    → symbol_class s ≡ scan.Other
     → may_come k p bs (terminal_class t) ≡ true → is_symbol s (Some t) ≡ true → ⊥
 no_symbol k p bs s t other h e =
     no_other k p bs (subst (λ c. may_come k p bs c ≡ true) (symbol_is s t e ∙ other) h)

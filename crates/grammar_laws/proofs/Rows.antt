@@ -1,5 +1,6 @@
 -- No comma in parentheses that aren't the list of an IN.
-use Rattle.std.proofs.Common.{◌≡◌, Bool, true, false, ◌&&◌, List, [], ◌∷◌, map, refl, ap, ◌∙◌, length, nat_le}
+use Rattle.std.proofs.Common.{◌≡◌, Bool, true, false, ◌&&◌, List, [], ◌∷◌, map, refl, ap, ◌∙◌}
+use Rattle.std.proofs.Common.{length, nat_le}
 use Rattle.sql_value.specs.declared.keywords.Keyword.{Keyword}
 use Rattle.sql_value.specs.declared.keywords.Keyword.TheVariants as keyword
 use Rattle.sql_value.specs.Reserved.{is_reserved_word}
@@ -10,7 +11,8 @@ use Rattle.sql_tokens.specs.declared.terminal.Terminal.TheVariants as terminal
 use Rattle.sql_lex.specs.Looks.{is_keyword, is_symbol}
 use Rattle.sql_lex.specs.Rows.{State, step_of, any_from, has_row_value}
 use Rattle.sql_parse.specs.TokenLexemes.{keyword_mark, symbol_mark}
-use Rattle.grammar_laws.proofs.Scan.{Class, Kind, Phase, may_come, phase_behind, stack_behind, is_after_in}
+use Rattle.grammar_laws.proofs.Scan.{Class, Kind, Phase, may_come, phase_behind, stack_behind}
+use Rattle.grammar_laws.proofs.Scan.{is_after_in}
 use Rattle.grammar_laws.proofs.Scan.{mark_class, keyword_class, symbol_class, terminal_class}
 use Rattle.grammar_laws.proofs.Scan as scan
 use Rattle.grammar_laws.proofs.Places.{Taken}
@@ -56,7 +58,8 @@ not_in_behind_not : (p : Phase) → is_after_in (scan.behind_not p) ≡ false
 not_in_behind_not scan.AfterIs = refl
 not_in_behind_not _ = refl
 
-comma_placed : (k : Kind) (p : Phase) (bs : List Bool) → may_come k p (false ∷ bs) scan.Comma ≡ true → ⊥
+comma_placed :
+    (k : Kind) (p : Phase) (bs : List Bool) → may_come k p (false ∷ bs) scan.Comma ≡ true → ⊥
 unfolding may_come
 comma_placed scan.Query scan.Begin bs e = cc
 comma_placed scan.Change scan.Begin bs e = cc
@@ -69,8 +72,10 @@ and_false false = refl
 
 -- one more terminal
 stepped :
-    (k : Kind) (p : Phase) (bs : List Bool) (c : Class) (ts : List Terminal) → may_come k p bs c ≡ true
-    → any_from 0 (state_of (stack_behind p c bs) (is_after_in (phase_behind p c))) (map step_of ts) ≡ false
+    (k : Kind) (p : Phase) (bs : List Bool) (c : Class) (ts : List Terminal)
+    → may_come k p bs c ≡ true
+    → any_from 0 (state_of (stack_behind p c bs) (is_after_in (phase_behind p c))) (map step_of ts)
+    ≡ false
     → any_from 0 (state_of bs (is_after_in p)) (step_of (sample c) ∷ map step_of ts) ≡ false
 unfolding any_from step_of is_keyword is_symbol phase_behind stack_behind
 stepped k p bs scan.Name ts m h = rw (not_in_behind_name p) at h
@@ -92,6 +97,7 @@ rows k p bs (t ∷ ts) h =
     ap (λ s. any_from 0 (state_of bs (is_after_in p)) (s ∷ map step_of ts)) (same_step t)
     ∙ stepped k p bs c ts h.0 (rows k (phase_behind p c) (stack_behind p c bs) ts h.1)
 
-pub no_row_value : (k : Kind) (ts : List Terminal) → Taken k scan.Begin [] ts → has_row_value ts ≡ false
+pub no_row_value :
+    (k : Kind) (ts : List Terminal) → Taken k scan.Begin [] ts → has_row_value ts ≡ false
 unfolding has_row_value
 no_row_value k ts h = rows k scan.Begin [] ts h

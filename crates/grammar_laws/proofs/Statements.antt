@@ -1,5 +1,6 @@
 -- The scan takes each statement that the grammar spells.
-use Rattle.std.proofs.Common.{◌≡◌, ℕ, Bool, Option, List, [], ◌∷◌, ◌++◌, refl, ap, ◌∙◌, subst, append_assoc}
+use Rattle.std.proofs.Common.{◌≡◌, ℕ, Bool, Option, List, [], ◌∷◌, ◌++◌, refl, ap, ◌∙◌, subst}
+use Rattle.std.proofs.Common.{append_assoc}
 use Rattle.std.proofs.lemmas.List.{append-nil}
 use Rattle.sql_tree.specs.Trees.{Tree}
 use Rattle.sql_tree.specs.Statements.{SourceTree, KeyTree, StatementTree}
@@ -9,7 +10,8 @@ use Rattle.sql_read.specs.declared.lexeme.Mark.TheVariants as mark
 use Rattle.sql_read.specs.Lexemes.{Lexeme}
 use Rattle.sql_read.specs.Lexemes as lexeme
 use Rattle.sql_read.specs.Parts.{Cuts}
-use Rattle.sql_parse.specs.Statements.{Listed, Condition, Label, Alias, Result, Table, Joined, Join, Joins}
+use Rattle.sql_parse.specs.Statements.{Listed, Condition, Label, Alias, Result, Table, Joined, Join}
+use Rattle.sql_parse.specs.Statements.{Joins}
 use Rattle.sql_parse.specs.Statements.{Sources, Directed, SortKey, SortKeys, Count, Limits, Setting}
 use Rattle.sql_parse.specs.Statements.{PerhapsAll, IsSpelled}
 use Rattle.sql_parse.specs.Statements as s
@@ -71,7 +73,8 @@ condition k e (s.present {m} {ts} x) rest h =
 joined :
     (k : Kind) {cross : Bool} {ts : List Lexeme} {source : SourceTree} → Joined cross ts source
     → (rest : List Lexeme) → Rest k [] rest
-    → (tail : List Lexeme) × (ts ++ rest ≡ lexeme.Fixed mark.Join ∷ tail) × Goes k scan.Label [] tail
+    → (tail : List Lexeme) × (ts ++ rest ≡ lexeme.Fixed mark.Join ∷ tail)
+    × Goes k scan.Label [] tail
 unfolding mark_class
 joined k (s.joined {ts = ts} {fs = fs} {bs = bs} t on e) rest h =
     let tail : List Lexeme = fs ++ (bs ++ rest) in (
@@ -108,7 +111,9 @@ sources k (s.sources {ts} {fs} {bs} t js e) rest h =
 
 -- Lists.
 
-between_two : (k : Kind) (rest : List Lexeme) → Goes k scan.Fresh [] rest → Rest k [] (lexeme.Fixed mark.Comma ∷ rest)
+between_two :
+    (k : Kind) (rest : List Lexeme) → Goes k scan.Fresh [] rest
+    → Rest k [] (lexeme.Fixed mark.Comma ∷ rest)
 unfolding lexeme_class mark_class may_come phase_behind stack_behind
 between_two k rest h _ scan.named = (refl, h)
 between_two k rest h _ scan.ended = (refl, h)
@@ -168,10 +173,22 @@ sort_keys :
     → Rest scan.Query [] rest → Rest scan.Query [] (ts ++ rest)
 unfolding lexeme_class mark_class may_come phase_behind stack_behind
 sort_keys s.unordered rest h q b = h q b
-sort_keys (s.ordered l) rest h _ scan.named =
-    (refl, (refl, listed Before scan.fresh scan.Query SortKey (sort_key scan.Query) l rest h scan.Anew scan.anew))
-sort_keys (s.ordered l) rest h _ scan.ended =
-    (refl, (refl, listed Before scan.fresh scan.Query SortKey (sort_key scan.Query) l rest h scan.Anew scan.anew))
+sort_keys (s.ordered l) rest h _ scan.named = (
+  refl,
+  (
+    refl,
+    listed Before scan.fresh scan.Query SortKey
+        (sort_key scan.Query) l rest h scan.Anew scan.anew,
+  ),
+)
+sort_keys (s.ordered l) rest h _ scan.ended = (
+  refl,
+  (
+    refl,
+    listed Before scan.fresh scan.Query SortKey
+        (sort_key scan.Query) l rest h scan.Anew scan.anew,
+  ),
+)
 
 count :
     {ts : List Lexeme} {cut : Cut} → Count ts cut → (rest : List Lexeme) → Rest scan.Query [] rest
@@ -185,7 +202,8 @@ count (s.param n) rest h _ scan.fresh = (refl, h scan.Ended scan.ended)
 count (s.param n) rest h _ scan.anew = (refl, h scan.Ended scan.ended)
 
 behind_limit :
-    (rest : List Lexeme) → Start scan.Query [] rest → Rest scan.Query [] (lexeme.Fixed mark.Limit ∷ rest)
+    (rest : List Lexeme) → Start scan.Query [] rest → Rest scan.Query []
+    (lexeme.Fixed mark.Limit ∷ rest)
 unfolding lexeme_class mark_class may_come phase_behind stack_behind
 behind_limit rest h _ scan.named = (refl, h scan.Anew scan.anew)
 behind_limit rest h _ scan.ended = (refl, h scan.Anew scan.anew)
@@ -200,9 +218,11 @@ limits (s.limit_offset {ts} {fs} {bs} c d e) rest h =
     let tail : List Lexeme = lexeme.Fixed mark.Offset ∷ (bs ++ rest) in
     let whole : ts ++ rest ≡ lexeme.Fixed mark.Limit ∷ (fs ++ tail) =
     ap (λ r. r ++ rest) e
-    ∙ ap (λ r. lexeme.Fixed mark.Limit ∷ r) (append_assoc fs (lexeme.Fixed mark.Offset ∷ bs) rest) in
+    ∙ ap (λ r. lexeme.Fixed mark.Limit ∷ r)
+    (append_assoc fs (lexeme.Fixed mark.Offset ∷ bs) rest) in
     λ q b. rw whole (behind_limit (fs ++ tail) (count c tail
-    (behind_mark scan.Query [] (bs ++ rest) mark.Offset refl (count d rest h scan.Anew scan.anew))) q b)
+    (behind_mark scan.Query [] (bs ++ rest) mark.Offset refl
+    (count d rest h scan.Anew scan.anew))) q b)
 limits (s.offset_limit {ts} {fs} {bs} c d e) rest h =
     let tail : List Lexeme = lexeme.Fixed mark.Comma ∷ (bs ++ rest) in
     let whole : ts ++ rest ≡ lexeme.Fixed mark.Limit ∷ (fs ++ tail) =
@@ -227,11 +247,15 @@ unfolding lexeme_class mark_class may_come phase_behind stack_behind
 behind_from rest h _ scan.named = (refl, h)
 behind_from rest h _ scan.ended = (refl, h)
 
-at_select : (rest : List Lexeme) → Goes scan.Query scan.Fresh [] rest → Goes scan.Query scan.Begin [] (lexeme.Fixed mark.Select ∷ rest)
+at_select :
+    (rest : List Lexeme) → Goes scan.Query scan.Fresh [] rest
+    → Goes scan.Query scan.Begin [] (lexeme.Fixed mark.Select ∷ rest)
 unfolding lexeme_class mark_class may_come phase_behind stack_behind
 at_select rest h = (refl, h)
 
-at_update : (rest : List Lexeme) → Goes scan.Change scan.Label [] rest → Goes scan.Change scan.Begin [] (lexeme.Fixed mark.Update ∷ rest)
+at_update :
+    (rest : List Lexeme) → Goes scan.Change scan.Label [] rest
+    → Goes scan.Change scan.Begin [] (lexeme.Fixed mark.Update ∷ rest)
 unfolding lexeme_class mark_class may_come phase_behind stack_behind
 at_update rest h = (refl, h)
 
@@ -242,7 +266,9 @@ unfolding lexeme_class mark_class may_come phase_behind stack_behind
 at_delete rest h = (refl, (refl, h))
 
 -- what ends a statement
-at_end : (k : Kind) (ts : List Lexeme) → ((rest : List Lexeme) → Rest k [] rest → Rest k [] (ts ++ rest)) → Rest k [] ts
+at_end :
+    (k : Kind) (ts : List Lexeme) → ((rest : List Lexeme) → Rest k [] rest → Rest k [] (ts ++ rest))
+    → Rest k [] ts
 at_end k ts taken = subst (λ r. Rest k [] r) (append-nil ts) (taken [] (λ q b. b))
 
 pub statement :
@@ -252,13 +278,15 @@ unfolding mark_class
 statement (s.select {qs = qs} {is = is} {ss = ss} {fs = fs} {ks = ks} {cs = cs} q i t f o c e) =
     let last = at_end scan.Query cs (limits c) in
     let tail = behind_from (ss ++ (fs ++ (ks ++ cs)))
-    (sources scan.Query t (fs ++ (ks ++ cs)) (condition scan.Query refl f (ks ++ cs) (sort_keys o cs last))) in
+    (sources scan.Query t (fs ++ (ks ++ cs))
+    (condition scan.Query refl f (ks ++ cs) (sort_keys o cs last))) in
     let results = listed IsFresh fresh scan.Query Result (result scan.Query) i
     (lexeme.Fixed mark.From ∷ (ss ++ (fs ++ (ks ++ cs)))) tail scan.Fresh fresh in
     (scan.Query, rw e (at_select _ (perhaps_all q _ results)))
 statement (s.update {ss = ss} {us = us} {fs = fs} t u f e) =
     let last = at_end scan.Change fs (condition scan.Change refl f) in
-    let sets = listed Before scan.fresh scan.Change Setting (setting scan.Change) u fs last scan.Anew scan.anew in (
+    let sets = listed Before scan.fresh scan.Change Setting
+    (setting scan.Change) u fs last scan.Anew scan.anew in (
       scan.Change,
       rw e (at_update _ (table scan.Change t (lexeme.Fixed mark.Set ∷ (us ++ fs))
           (behind_mark scan.Change [] (us ++ fs) mark.Set refl sets))),

@@ -1,5 +1,6 @@
 -- Classes of terminals: the same as those of the lexemes, and what they say of the terminal.
-use Rattle.std.proofs.Common.{◌≡◌, ℕ, Bool, true, false, not, ◌⊎◌, inl, inr, cond, Option, None, Some, List, [], ◌∷◌, map, refl, ap, subst}
+use Rattle.std.proofs.Common.{◌≡◌, ℕ, Bool, true, false, not, ◌⊎◌, inl, inr, cond, Option, None}
+use Rattle.std.proofs.Common.{Some, List, [], ◌∷◌, map, refl, ap, subst}
 use denote.Enum.Bare.{same_true}
 use Rattle.sql_value.specs.declared.keywords.Keyword.{Keyword}
 use Rattle.sql_value.specs.declared.keywords.Keyword.TheVariants as keyword
@@ -23,9 +24,12 @@ use Rattle.sql_read.specs.Lexemes.{Lexeme}
 use Rattle.sql_read.specs.Lexemes as lexeme
 use Rattle.sql_parse.specs.Parameters.{Met, parameter_number}
 use Rattle.sql_parse.specs.TokenLexemes.{keyword_mark, symbol_mark, mark_or, keyword_direction}
-use Rattle.sql_parse.specs.TokenLexemes.{number_lexeme, parameter_lexeme, lexeme_by, lexeme_at, met_after, lexemes_from}
-use Rattle.grammar_laws.proofs.Scan.{Class, Kind, Phase, Takes, may_come, phase_behind, stack_behind}
-use Rattle.grammar_laws.proofs.Scan.{mark_class, lexeme_class, class_or, keyword_class, symbol_class, terminal_class}
+use Rattle.sql_parse.specs.TokenLexemes.{number_lexeme, parameter_lexeme, lexeme_by, lexeme_at}
+use Rattle.sql_parse.specs.TokenLexemes.{met_after, lexemes_from}
+use Rattle.grammar_laws.proofs.Scan.{Class, Kind, Phase, Takes, may_come, phase_behind}
+use Rattle.grammar_laws.proofs.Scan.{stack_behind}
+use Rattle.grammar_laws.proofs.Scan.{mark_class, lexeme_class, class_or, keyword_class}
+use Rattle.grammar_laws.proofs.Scan.{symbol_class, terminal_class}
 use Rattle.grammar_laws.proofs.Scan as scan
 
 -- The class of a lexeme is that of its terminal, or nothing is taken there.
@@ -107,7 +111,8 @@ of_tokens text met [] k p bs h = h
 of_tokens text met (t ∷ ts) k p bs h =
     let l = lexeme_at text met t in
     let c = lexeme_class l in
-    let later = of_tokens text (met_after text met t) ts k (phase_behind p c) (stack_behind p c bs) h.1 in
+    let later = of_tokens text (met_after text met t) ts k (phase_behind p c)
+    (stack_behind p c bs) h.1 in
     elim (same_class (terminal_of text t) _ _ met) [
       | inl e ↦ subst (λ d. TakesFirst k p bs d (map (terminal_of text) ts)) e (h.0, later)
       | inr e ↦ absurd (no_other k p bs (subst (λ d. may_come k p bs d ≡ true) e h.0))
@@ -182,7 +187,8 @@ ends scan.Close = true
 ends _ = false
 
 keyword_end :
-    (k : Keyword) → is_operand_end (Some (terminal.Keyword k)) ≡ true → ends (keyword_class k) ≡ true
+    (k : Keyword) → is_operand_end (Some (terminal.Keyword k)) ≡ true
+    → ends (keyword_class k) ≡ true
 unfolding is_operand_end is_name is_free_word is_literal is_keyword is_symbol is_reserved_word keyword_class keyword_mark mark_class
 keyword_end keyword.Null e = refl
 keyword_end _ e = cc
