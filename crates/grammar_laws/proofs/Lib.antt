@@ -11,3 +11,4 @@ pub mod Sources
 pub mod Rows
 pub mod Froms
 pub mod Known
+pub mod LevelMarks
