@@ -5,3 +5,4 @@ pub mod SoundStatements
 pub mod CompleteStatements
 pub mod Whole
 pub mod TokenSteps
+pub mod NamedParameters

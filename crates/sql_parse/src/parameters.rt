@@ -1,8 +1,9 @@
 //! The numbers of parameters.
-ghost use Rattle.std.specs.Prelude.{◌≡◌, ◌+◌, ◌++◌, ◌∷◌, [], unwrap_or, IfOk};
+ghost use Rattle.std.specs.Prelude.{◌≡◌, ◌+◌, ◌++◌, ◌∷◌, [], None, unwrap_or, IfOk, OnOk};
 ghost use Rattle.sql_parse.specs.Parameters.{no_parameters, number_named, parameter_number, met_behind};
 ghost use Rattle.sql_parse.specs.Parameters.{with_name};
 
+use indexmap::IndexMap;
 use sql_value::{Memory, read_digits};
 use std::alloc::Global;
 use std::marker::Model;
@@ -10,14 +11,16 @@ use std::marker::Model;
 /// The greatest number that stands behind `?`.
 const MOST_PARAMETERS: u64 = 32766;
 
-/// The parameters met so far in a statement.
+/// The parameters met so far in a statement. A name is found by one hash.
+///
+/// The default hasher isn't keyed, so names chosen to collide make a look-up go over all of them.
 #[derive(Drop)]
-pub(crate) struct Parameters<'a> {
+pub(crate) struct Parameters {
     greatest: u32,
-    named: Vec<(&'a [u8], u32)>,
+    named: IndexMap<Vec<u8>, u32>,
 }
 
-impl<'a> Model for Parameters<'a> {
+impl Model for Parameters {
     ghost use Rattle.std.specs.Prelude.{map};
     ghost use Rattle.sql_parse.specs.Parameters.{Met};
 
@@ -25,32 +28,39 @@ impl<'a> Model for Parameters<'a> {
 
     ghost view = { λ p. record {
       greatest = p.greatest;
-      named = map (λ one. (one.0.now, one.1)) p.named.items;
+      named = map (λ one. (one.0.items, one.1)) p.named.entries;
     } };
 }
 
-impl<'a> Parameters<'a> {
+fn owned(alloc: Global, bytes: &[u8]) -> Result<Vec<u8>, Memory>
+    ensures { IfOk result (λ copy. copy.items ≡ bytes.now) }
+{
+    let mut copy = Vec::new(alloc);
+    match copy.extend_from_slice(bytes) {
+        Ok(()) => Ok(copy),
+        Err(_) => Err(Memory),
+    }
+}
+
+impl Parameters {
     /// None so far.
     pub(crate) fn new(alloc: Global) -> Self
         ensures { result ≡ no_parameters }
     {
         Parameters {
             greatest: 0,
-            named: Vec::new(alloc),
+            named: IndexMap::new(alloc),
         }
     }
 
-    /// The number that a name had before. Its time grows with the names that differ, so a statement of
-    /// very many named parameters takes their square.
+    /// The number that a name had before. Takes no memory.
     fn find(&self, name: &[u8]) -> Option<u32>
         ensures { result ≡ number_named name.now self.now.named }
     {
-        for (held, number) in &self.named {
-            if name == *held {
-                return Some(*number);
-            }
+        match self.named.get(name) {
+            Some(number) => Some(*number),
+            None => None,
         }
-        None
     }
 
     /// One more than the greatest so far, which is now the greatest. Memory is answered too where 32
@@ -68,8 +78,23 @@ impl<'a> Parameters<'a> {
         }
     }
 
+    /// Gives a name that has no number this one.
+    fn add(&mut self, alloc: Global, name: &[u8], number: u32) -> Result<(), Memory>
+        requires { number_named name.now self.old.named ≡ None }
+        ensures { OnOk result (self.new ≡ record {
+          greatest = self.old.greatest;
+          named = self.old.named ++ (name.now, number) ∷ [];
+        }) }
+    {
+        let key = owned(alloc, name)?;
+        let Ok(_) = self.named.insert(key, number) else {
+            return Err(Memory);
+        };
+        Ok(())
+    }
+
     /// The number of a name, which is met from here on.
-    fn take_name(&mut self, name: &'a [u8]) -> Result<u32, Memory>
+    fn take_name(&mut self, alloc: Global, name: &[u8]) -> Result<u32, Memory>
         ensures { IfOk result (λ n. (n ≡ unwrap_or (number_named name.now self.old.named) (self.old.greatest + 1))
             × (self.new ≡ with_name self.old name.now (number_named name.now self.old.named))) }
     {
@@ -77,16 +102,14 @@ impl<'a> Parameters<'a> {
             return Ok(number);
         }
         let number = self.take_next()?;
-        match self.named.push((name, number)) {
-            Ok(()) => Ok(number),
-            Err(_) => Err(Memory),
-        }
+        self.add(alloc, name, number)?;
+        Ok(number)
     }
 
     /// The number of a parameter, which is met from here on. `None` where `?` stands before what is
     /// no number of a parameter.
     #[tactic(auto, unfolding(crate::specs::Parameters::form_of, crate::specs::Parameters::parameter_number, crate::specs::Parameters::met_behind))]
-    pub(crate) fn take(&mut self, bytes: &'a [u8]) -> Result<Option<u32>, Memory>
+    pub(crate) fn take(&mut self, alloc: Global, bytes: &[u8]) -> Result<Option<u32>, Memory>
         ensures { IfOk result (λ n. (n ≡ parameter_number self.old bytes.now)
             × (self.new ≡ met_behind self.old bytes.now)) }
     {
@@ -102,7 +125,7 @@ impl<'a> Parameters<'a> {
                 },
                 None => Ok(None),
             },
-            _ => Ok(Some(self.take_name(bytes)?)),
+            _ => Ok(Some(self.take_name(alloc, bytes)?)),
         }
     }
 }

@@ -140,7 +140,7 @@ fn place_value<'a>(
 fn lexeme_read<'a>(
     alloc: Global,
     arena: &'a Bump,
-    met: &mut Parameters<'a>,
+    met: &mut Parameters,
     text: &'a [u8],
     token: Token,
 ) -> Result<Lexeme<'a>, Memory>
@@ -154,7 +154,7 @@ fn lexeme_read<'a>(
         Terminal::Text => Ok(Lexeme::Text(place_value(alloc, arena, text, token)?)),
         Terminal::Blob => Ok(Lexeme::Blob(place_value(alloc, arena, text, token)?)),
         Terminal::Number => Ok(number_lexeme(token_text(text, token))),
-        Terminal::Parameter => match met.take(token_text(text, token))? {
+        Terminal::Parameter => match met.take(alloc, token_text(text, token))? {
             Some(number) => Ok(Lexeme::Param(number)),
             None => Ok(Lexeme::Other),
         },

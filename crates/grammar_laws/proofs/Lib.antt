@@ -1,0 +1,14 @@
+pub mod Scan
+pub mod Expressions
+pub mod Statements
+pub mod Terminals
+pub mod Places
+pub mod OtherWords
+pub mod Beginnings
+pub mod Neighbours
+pub mod Operators
+pub mod Sources
+pub mod Rows
+pub mod Froms
+pub mod Known
+pub mod LevelMarks
