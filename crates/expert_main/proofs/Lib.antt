@@ -1,3 +1,2 @@
-mod FormLemmas
 mod Lines
-pub mod Scanning
+mod Told

@@ -1,9 +1,5 @@
 pub mod Lines
-pub mod Marks
-pub mod Views
-pub mod Forms
-pub mod Scanning
-pub mod Report
 pub mod Run
 pub mod Refusals
 pub mod Causes
+pub mod Answers

@@ -6,8 +6,17 @@ usage_line =
     codes "usage: sqlite3_expert [-sql SQL] [-file FILE] [-sample PERCENT] [-verbose LEVEL] DATABASE"
     ++ [] ++ 10 ∷ []
 
-abbrev pub not_built_line : List ℕ
-not_built_line = codes "sqlite3_expert: form not built yet" ++ [] ++ 10 ∷ []
+abbrev pub database_too_large_line : List ℕ
+database_too_large_line = codes "sqlite3_expert: database too large" ++ [] ++ 10 ∷ []
+
+abbrev pub database_file_line : List ℕ
+database_file_line = codes "sqlite3_expert: database file format not read" ++ [] ++ 10 ∷ []
+
+abbrev pub script_too_large_line : List ℕ
+script_too_large_line = codes "sqlite3_expert: script too large" ++ [] ++ 10 ∷ []
+
+abbrev pub too_many_tables_line : List ℕ
+too_many_tables_line = codes "sqlite3_expert: too many tables" ++ [] ++ 10 ∷ []
 
 abbrev pub cannot_read_line : List ℕ → List ℕ
 cannot_read_line name = codes "sqlite3_expert: cannot read " ++ name ++ 10 ∷ []

@@ -1,11 +1,17 @@
 -- What the program answers and writes: a function of its words and of the files.
-use Rattle.std.specs.Prelude.{ℕ, ◌≡◌, ◌||◌, IsSomeAnd, List, [], ◌∷◌, length, nat_lt, None, Some, if◌then◌else◌, codes}
+use Rattle.std.specs.Prelude.{ℕ, ◌≡◌, ◌||◌, Bool, IsSomeAnd, List, [], ◌∷◌, ◌++◌, length, nat_eq, nat_lt}
+use Rattle.std.specs.Prelude.{None, Some, if◌then◌else◌, codes}
 use Rattle.std.specs.declared.option.Option.{Option}
+use Rattle.std.specs.List.{starts_with}
 use Rattle.std.specs.Str.{bytes_eq}
+use Rattle.schema_model.specs.Schemas.{Schema}
+use Rattle.schema_read.specs.Dumps.{dump_of, table_total}
 use Rattle.expert_io.specs.Told.{File, file_of}
-use Rattle.expert_main.specs.Lines.{usage_line, not_built_line, cannot_read_line}
-use Rattle.expert_main.specs.Forms.{Scan, scan_of}
-use Rattle.expert_main.specs.Report.{report_of}
+use Rattle.expert_report.specs.Advice.{Advice, EachMeans, script_advice}
+use Rattle.expert_report.specs.Reports.{report_on, refuses_some, text_of}
+use Rattle.expert_report.specs.declared.outcomes.Report.{Report}
+use Rattle.expert_main.specs.Lines.{usage_line, cannot_read_line, database_too_large_line}
+use Rattle.expert_main.specs.Lines.{database_file_line, script_too_large_line, too_many_tables_line}
 
 -- the exit status, and what is written to standard output and to standard error
 pub record Ran : Type 0 where
@@ -16,8 +22,10 @@ pub record Ran : Type 0 where
 abbrev pub refused : ℕ → List ℕ → Ran
 refused status line = record { status = status; out = []; err = line }
 
-abbrev pub answered : List ℕ → Ran
-answered report = record { status = 0; out = report; err = [] }
+-- 3 where some statement is refused
+abbrev pub answered : Report → Ran
+answered report =
+    record { status = if refuses_some report then 3 else 0; out = text_of report; err = [] }
 
 -- what the words name: a script, and the file of a database
 pub record Command : Type 0 where
@@ -31,16 +39,33 @@ command_of (option ∷ script ∷ database ∷ []) =
     then Some (record { script = script; database = database }) else None
 command_of words = None
 
-abbrev pub run_scan : Option Scan → Ran
-run_scan None = refused 2 not_built_line
-run_scan (Some scan) = answered (report_of scan.table)
+-- the bytes that a database file of SQLite begins with, in place of a dump's text
+abbrev pub file_header : List ℕ
+file_header = codes "SQLite format 3" ++ 0 ∷ []
+
+abbrev pub is_database_file : List ℕ → Bool
+is_database_file database = starts_with nat_eq database file_header
+
+-- the schema of a dump
+unfoldable pub schema_of : List ℕ → Schema
+schema_of database = (dump_of database).schema
+
+-- the report on a script
+unfoldable pub report_of : Schema → List ℕ → Report
+report_of schema script = report_on schema (script_advice schema script)
+
+abbrev pub run_schema : List ℕ → Schema → Ran
+run_schema script schema =
+    if nat_lt 1000 (table_total schema) then refused 2 too_many_tables_line
+    else answered (report_of schema script)
 
 -- a database has at most 67,108,864 bytes, and a script 4,194,304
 abbrev pub run_texts : List ℕ → List ℕ → Ran
 run_texts script database =
-    if nat_lt 67108864 (length database) then refused 2 not_built_line
-    else if nat_lt 4194304 (length script) then refused 2 not_built_line
-    else run_scan (scan_of script database)
+    if nat_lt 67108864 (length database) then refused 2 database_too_large_line
+    else if is_database_file database then refused 2 database_file_line
+    else if nat_lt 4194304 (length script) then refused 2 script_too_large_line
+    else run_schema script (schema_of database)
 
 abbrev pub run_database : Command → Option (List ℕ) → Ran
 run_database command None = refused 4 (cannot_read_line command.database)
@@ -54,18 +79,34 @@ run_command files (Some command) = run_database command (file_of files command.d
 abbrev pub run : List (List ℕ) → List File → Ran
 run words files = run_command files (command_of words)
 
-abbrev pub scanned_in : Command → Option (List ℕ) → Option Scan
-scanned_in command None = None
-scanned_in command (Some database) = scan_of command.script database
+-- the schema that is advised on, and what becomes of each statement of the script
+pub record Advised : Type 0 where
+  pub schema : Schema
+  pub statements : List Advice
 
-abbrev pub scanned_by : List File → Option Command → Option Scan
-scanned_by files None = None
-scanned_by files (Some command) = scanned_in command (file_of files command.database)
+abbrev pub advised_of : Schema → List ℕ → Advised
+advised_of schema script =
+    record { schema = schema; statements = script_advice schema script }
 
--- the scan on which the program reports
-abbrev pub scanned : List (List ℕ) → List File → Option Scan
-scanned words files = scanned_by files (command_of words)
+abbrev pub advised_on : List ℕ → List ℕ → Advised
+advised_on script database = advised_of (schema_of database) script
 
--- what was written is the report on that scan
-abbrev pub ReportsScan : List (List ℕ) → List File → List ℕ → Type 0
-ReportsScan words files out = IsSomeAnd (scanned words files) (λ scan. out ≡ report_of scan.table)
+abbrev pub advised_in : Command → Option (List ℕ) → Option Advised
+advised_in command None = None
+advised_in command (Some database) = Some (advised_on command.script database)
+
+abbrev pub advised_by : List File → Option Command → Option Advised
+advised_by files None = None
+advised_by files (Some command) = advised_in command (file_of files command.database)
+
+abbrev pub advised : List (List ℕ) → List File → Option Advised
+advised words files = advised_by files (command_of words)
+
+-- what was written is the report on the script's statements, and each plan in it means its
+-- statement: on every database of the schema, and for all parameters
+pub record Means (advice : Advised) (out : List ℕ) : Type 0 where
+  pub printed : out ≡ text_of (report_on advice.schema advice.statements)
+  pub means : EachMeans advice.schema advice.statements
+
+abbrev pub ReportMeans : List (List ℕ) → List File → List ℕ → Type 0
+ReportMeans words files out = IsSomeAnd (advised words files) (λ advice. Means advice out)

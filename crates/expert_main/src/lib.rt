@@ -1,10 +1,8 @@
 //! The program below `main`: from its words and files to its status and what it writes.
 #![tactic(auto)]
 
-mod forms;
-mod marks;
+mod answer;
 mod refusal;
-mod report;
 mod top;
 mod words;
 

@@ -15,8 +15,14 @@ const USAGE: &[u8] =
 pub enum Refusal<'a> {
     /// The words are no command.
     Usage,
-    /// The database or the script has a form that is not read yet.
-    NotBuilt,
+    /// The database has more than 67,108,864 bytes.
+    DatabaseTooLarge,
+    /// The database is a file of SQLite, and no dump.
+    DatabaseFile,
+    /// The script has more than 4,194,304 bytes.
+    ScriptTooLarge,
+    /// The dump names more than 1,000 tables.
+    TooManyTables,
     /// The file of this name can't be read.
     CannotRead(&'a [u8]),
     /// The report can't be written.
@@ -53,7 +59,10 @@ impl<'a> Refusal<'a> {
     {
         match self {
             Refusal::Usage => 1,
-            Refusal::NotBuilt => 2,
+            Refusal::DatabaseTooLarge
+            | Refusal::DatabaseFile
+            | Refusal::ScriptTooLarge
+            | Refusal::TooManyTables => 2,
             Refusal::CannotRead(_) => 4,
             Refusal::CannotWrite => 5,
             Refusal::Memory => 6,
@@ -67,7 +76,12 @@ impl<'a> Refusal<'a> {
     {
         match self {
             Refusal::Usage => say(err, USAGE, &[]),
-            Refusal::NotBuilt => say(err, b"sqlite3_expert: form not built yet", &[]),
+            Refusal::DatabaseTooLarge => say(err, b"sqlite3_expert: database too large", &[]),
+            Refusal::DatabaseFile => {
+                say(err, b"sqlite3_expert: database file format not read", &[])
+            }
+            Refusal::ScriptTooLarge => say(err, b"sqlite3_expert: script too large", &[]),
+            Refusal::TooManyTables => say(err, b"sqlite3_expert: too many tables", &[]),
             Refusal::CannotRead(name) => say(err, b"sqlite3_expert: cannot read ", name),
             Refusal::CannotWrite => say(err, b"sqlite3_expert: cannot write", &[]),
             Refusal::Memory => say(err, b"sqlite3_expert: out of memory", &[]),

@@ -7,21 +7,21 @@ use sql_value::{Bytes, Memory};
 use std::alloc::Global;
 use std::test::Fail;
 
-const DATABASE: &[u8] = b"CREATE TABLE x1(a,b,c);";
+const X1: &str = "CREATE TABLE x1(a,b,c);";
 
-const REPORT: &str =
+const SCAN: &str =
     "-- Statement 1\n(no new indexes)\n\nSCAN x1\n\n-- Recommended\n(no new indexes)\n";
 
-const NOT_BUILT: &str = "sqlite3_expert: form not built yet\n";
+const NOTHING: &str = "-- Recommended\n(no new indexes)\n";
 
 /// No call of the objects in memory has this number.
 const NEVER: u64 = 99;
 
-fn shelf(alloc: Global, failing: u64, most: u64) -> Result<MemoryShelf, Memory>
+fn shelf(alloc: Global, dump: &str, failing: u64, most: u64) -> Result<MemoryShelf, Memory>
     requires { 1 ≤ most }
 {
     let mut files = Files::new(alloc);
-    files.push((Bytes::copy(alloc, b"db")?, Bytes::copy(alloc, DATABASE)?))?;
+    files.push((Bytes::copy(alloc, b"db")?, Bytes::copy(alloc, dump.as_bytes())?))?;
     Ok(MemoryShelf::new(files, call(alloc, failing)?, most))
 }
 
@@ -39,33 +39,112 @@ fn words_of(alloc: Global, words: &[&str]) -> Result<Words, Memory> {
     Ok(list)
 }
 
+/// What a call answers, and what it writes.
+#[derive(Drop)]
+struct Ran {
+    status: u8,
+    out: Bytes,
+    err: Bytes,
+}
+
+fn run(alloc: Global, words: &[&str], dump: &str) -> Result<Ran, Memory> {
+    let words = words_of(alloc, words)?;
+    let mut shelf = shelf(alloc, dump, NEVER, 7)?;
+    let mut out = MemorySink::new(alloc, 9_999, Calls::new(alloc), 999)?;
+    let mut err = MemorySink::new(alloc, 999, Calls::new(alloc), 999)?;
+    Ok(Ran {
+        status: expert(alloc, &words, &mut shelf, &mut out, &mut err),
+        out: Bytes::copy(alloc, out.written())?,
+        err: Bytes::copy(alloc, err.written())?,
+    })
+}
+
 #[test]
 fn reports_and_refuses(rt: HostRuntime) -> Result<(), Fail> {
     let alloc = rt.alloc();
-    // The option, the script, the database, the status, and what standard error gets.
-    for (option, script, database, status, err) in [
-        ("-sql", "SELECT * FROM x1", "db", 0u8, ""),
-        ("--sql", "select\t*\nFrom X1;", "db", 0, ""),
-        ("-sql", "SELECT * FROM nope", "db", 2, NOT_BUILT),
-        ("-sql", "SELECT a+1 FROM x1", "db", 2, NOT_BUILT),
-        ("-sql", "SELECT zz FROM x1", "db", 2, NOT_BUILT),
+    // The option, the script, the database's name, the dump; the status and both streams.
+    for (option, script, database, dump, status, out, err) in [
+        ("-sql", "SELECT * FROM x1", "db", X1, 0u8, SCAN, ""),
+        ("--sql", "select\t*\nFrom X1;", "db", X1, 0, SCAN, ""),
+        ("-sql", "SELECT b, a FROM X1;", "db", X1, 0, SCAN, ""),
+        ("-sql", " ; /* none */ ;;", "db", X1, 0, NOTHING, ""),
+        ("-sql", "", "db", "", 0, NOTHING, ""),
+        (
+            "-sql",
+            "SELECT y.a AS k FROM \"x1\" 'y' WHERE k = 1; SELECT [y].a FROM x1 AS [y] WHERE y.a = 1",
+            "db",
+            X1,
+            3,
+            "-- Statement 1\nrefused: syntax error\n\n-- Statement 2\n(no new indexes)\n\nSCAN x1 AS y\n\n-- Recommended\n(no new indexes)\n",
+            "",
+        ),
+        (
+            "-sql",
+            "SELECT * FROM nope; SELECT * FROM x1",
+            "db",
+            X1,
+            3,
+            "-- Statement 1\nrefused: no such table: nope\n\n-- Statement 2\n(no new indexes)\n\nSCAN x1\n\n-- Recommended\n(no new indexes)\n",
+            "",
+        ),
         (
             "-sql",
             "SELECT * FROM x1",
             "gone",
+            X1,
             4,
+            "",
             "sqlite3_expert: cannot read gone\n",
         ),
+        (
+            "-sql",
+            "",
+            "db",
+            "SQLite format 3\0",
+            2,
+            "",
+            "sqlite3_expert: database file format not read\n",
+        ),
     ] {
-        let words = words_of(alloc, &[option, script, database])?;
-        let mut shelf = shelf(alloc, NEVER, 7)?;
-        let mut out = MemorySink::new(alloc, 999, Calls::new(alloc), 999)?;
-        let mut errors = MemorySink::new(alloc, 999, Calls::new(alloc), 999)?;
-        let answer = expert(alloc, &words, &mut shelf, &mut out, &mut errors);
-        assert_eq!(rt; answer, status, "{script} {database}");
-        let report = if status == 0 { REPORT } else { "" };
-        assert_eq!(rt; out.written(), report.as_bytes(), "{script} {database}");
-        assert_eq!(rt; errors.written(), err.as_bytes(), "{script} {database}");
+        let ran = run(alloc, &[option, script, database], dump)?;
+        assert_eq!(rt; ran.status, status, "{script}");
+        assert_eq!(rt; ran.out.as_slice(), out.as_bytes(), "{script}");
+        assert_eq!(rt; ran.err.as_slice(), err.as_bytes(), "{script}");
+    }
+    Ok(())
+}
+
+#[test]
+fn refuses_by_name(rt: HostRuntime) -> Result<(), Fail> {
+    let alloc = rt.alloc();
+    for (script, why) in [
+        ("SELECT 'ab", "unrecognized token"),
+        ("SELECT a FROM x1 WHERE a = = 5", "syntax error"),
+        ("SELECT a FROM x1 WHERE a = 1.23456", "number outside this profile"),
+        ("SELECT a FROM x1 WHERE a + 1 = 2", "not in this profile: ARITHMETIC"),
+        ("SELECT a FROM x1 WHERE a+1 = 1.23456", "not in this profile: ARITHMETIC"),
+        ("SELECT a FROM x1 WHERE a IN (SELECT 1)", "not in this profile: SUBQUERY"),
+        ("INSERT INTO x1 VALUES(1,2,3)", "not in this profile: INSERT"),
+        ("SELECT 1", "not in this profile: SELECT WITHOUT FROM"),
+        ("SELECT * FROM nope, x1, x1", "no such table: nope"),
+        ("SELECT * FROM v", "table not read: v"),
+        ("SELECT zz FROM x1", "no such column: zz"),
+        ("SELECT x1.zz FROM x1", "no such column: x1.zz"),
+        ("SELECT \"t\".* FROM x1", "no such column: t.*"),
+        ("SELECT a FROM x1, x1 AS y WHERE zz = 1", "ambiguous column name: a"),
+        ("SELECT * FROM x1, x1", "name used twice in FROM: x1"),
+        ("SELECT * FROM x1 ORDER BY 4", "ORDER BY position out of range"),
+        ("SELECT * FROM x1 WHERE a COLLATE foo = 1", "no such collation: foo"),
+        ("SELECT * FROM x1 ORDER BY a", "form not built yet"),
+        ("SELECT * FROM x1 LIMIT 1", "form not built yet"),
+        ("SELECT * FROM x1, x1 AS y", "form not built yet"),
+        ("UPDATE x1 SET a = 1", "form not built yet"),
+        ("DELETE FROM x1", "form not built yet"),
+    ] {
+        let ran = run(alloc, &["-sql", script, "db"], "CREATE TABLE x1(a,b,c); CREATE VIEW v AS x")?;
+        assert_eq!(rt; ran.status, 3, "{script}");
+        let out = format!(in alloc; "-- Statement 1\nrefused: {why}\n\n{NOTHING}")?;
+        assert_eq!(rt; ran.out.as_slice(), out.as_bytes(), "{script}");
     }
     Ok(())
 }
@@ -77,18 +156,18 @@ fn says_which_outside_call_failed(rt: HostRuntime) -> Result<(), Fail> {
     // The call of the shelf that fails and the most bytes of a read; the call of `out` that fails and
     // the most bytes of a write; the status, and what `out` holds then.
     for (reading, read, writing, written, status, held) in [
-        (NEVER, 1u64, NEVER, 999u64, 0u8, REPORT),
-        (NEVER, 65_536, NEVER, 1, 0, REPORT),
+        (NEVER, 1u64, NEVER, 999u64, 0u8, SCAN),
+        (NEVER, 65_536, NEVER, 1, 0, SCAN),
         (1, 7, NEVER, 999, 4, ""),
         (2, 7, NEVER, 999, 4, ""),
         (5, 7, NEVER, 999, 4, ""),
         (6, 7, NEVER, 999, 4, ""),
-        (7, 7, NEVER, 999, 0, REPORT),
+        (7, 7, NEVER, 999, 0, SCAN),
         (NEVER, 7, 2, 10, 5, "-- Stateme"),
         (NEVER, 7, 1, 999, 5, ""),
     ] {
         assert!(rt; read >= 1 && written >= 1);
-        let mut shelf = shelf(alloc, reading, read)?;
+        let mut shelf = shelf(alloc, X1, reading, read)?;
         let mut out = MemorySink::new(alloc, 999, call(alloc, writing)?, written)?;
         let mut errors = MemorySink::new(alloc, 999, Calls::new(alloc), 999)?;
         let answer = expert(alloc, &words, &mut shelf, &mut out, &mut errors);
@@ -115,7 +194,7 @@ fn a_fault_of_standard_error_changes_nothing(rt: HostRuntime) -> Result<(), Fail
         (words_of(alloc, &[])?, 1u8),
         (words_of(alloc, &["-sql", "x"])?, 1),
     ] {
-        let mut shelf = shelf(alloc, NEVER, 7)?;
+        let mut shelf = shelf(alloc, X1, NEVER, 7)?;
         let mut out = MemorySink::new(alloc, 999, Calls::new(alloc), 999)?;
         let mut errors = MemorySink::new(alloc, 999, call(alloc, 1)?, 999)?;
         assert_eq!(rt;

@@ -1,55 +1,49 @@
 //! The top call.
-ghost use Rattle.std.specs.Prelude.{◌≡◌, ◌≢◌, ◌↔◌, ◌<◌, ◌-◌, ◌^◌, ◌≤◌, ◌⊎◌, ◌++◌, [], ◌∷◌, List, ℕ, None, Some, OnOk, IfOk, IfErr, IfSome, IsSome, IsSomeAnd};
+ghost use Rattle.std.specs.Prelude.{◌≡◌, ◌≢◌, ◌↔◌, ◌<◌, ◌≤◌, ◌⊎◌, [], ◌∷◌, List, ℕ, None, OnOk, IfOk, IfErr, IfSome, IsSome, true, false};
 ghost use Rattle.std.specs.Io.KnownBytes.{Appends};
 ghost use Rattle.expert_io.specs.Faults.{Rose, Stood};
 ghost use Rattle.expert_io.specs.Told.{Lacks};
 ghost use Rattle.expert_io.specs.Written.{AppendsProperPrefix};
-ghost use Rattle.expert_main.specs.Lines.{not_built_line};
-ghost use Rattle.expert_main.specs.Report.{report_of};
-ghost use Rattle.expert_main.specs.Run.{run, refused, command_of, answered, scanned, ReportsScan};
-ghost use Rattle.expert_main.specs.Scanning.{MeansItsStatement};
+ghost use Rattle.expert_main.specs.Answers.{gives};
+ghost use Rattle.expert_main.specs.Run.{run, refused, command_of, ReportMeans};
 ghost use Rattle.expert_main.specs.Refusals.{status_of, line_of, WritesLine, Gives};
-ghost use Rattle.expert_main.specs.Causes.{database_of, line_after};
+ghost use Rattle.expert_main.specs.Causes.{database_of, is_report, Blames, IsLineAfter};
 
-use crate::forms::scanned_table;
+use crate::answer::{Answer, answer_texts};
 use crate::refusal::Refusal;
-use crate::report::scan_report;
 use crate::words::read_words;
 use expert_io::{ReadFault, Shelf, Sink, Words, read_file, write_all};
-use sql_value::Bytes;
 use std::alloc::Global;
 
 /// How many bytes a database may have.
 const DATABASE_LIMIT: u64 = 67_108_864;
-
-/// How many bytes a script may have.
-const SCRIPT_LIMIT: usize = 4_194_304;
 
 // The whole report, or why there is none.
 fn prepare<'a, F: Shelf>(
     alloc: Global,
     words: &'a Words,
     shelf: &mut F,
-) -> Result<Bytes, Refusal<'a>>
-    ensures answered { IfOk result (λ report. IfSome (F.files shelf.old) (λ files.
-        run words.now files ≡ answered report)) }
+) -> Result<Answer, Refusal<'a>>
+    ensures answered { IfOk result (λ answer. IfSome (F.files shelf.old) (λ files.
+        run words.now files ≡ gives answer)) }
+    ensures report { IfOk result (λ answer. is_report answer.status ≡ true) }
     ensures refused { IfErr result (λ refusal. status_of refusal ≡ 2 → IfSome (F.files shelf.old)
-        (λ files.
-        run words.now files ≡ refused 2 not_built_line)) }
+        (λ files. run words.now files ≡ refused 2 (line_of refusal))) }
     ensures known { IfErr result (λ refusal. status_of refusal ≢ 5) }
     ensures told { IfErr result (λ refusal. Stood (F.faults shelf.old) (F.faults shelf.new)
         → status_of refusal ≢ 6 →
         IfSome (F.files shelf.old)
         (λ files. run words.now files ≡ refused (status_of refusal) (line_of refusal))) }
-    ensures read { IfOk result (λ report. (database : List ℕ)
-        × (run words.now ((database_of words.now, database) ∷ []) ≡ answered report)) }
+    ensures read { IfOk result (λ answer. (database : List ℕ)
+        × (run words.now ((database_of words.now, database) ∷ []) ≡ gives answer)
+        × ReportMeans words.now ((database_of words.now, database) ∷ []) answer.report) }
 
     ensures command { OnOk result (IsSome (command_of words.now)) }
     ensures usage { IfErr result
         (λ refusal. (status_of refusal ≡ 1) ↔ (command_of words.now ≡ None)) }
 
-    ensures scanned { IfOk result (λ report. IfSome (F.files shelf.old)
-        (λ files. ReportsScan words.now files report)) }
+    ensures means { IfOk result (λ answer. IfSome (F.files shelf.old)
+        (λ files. ReportMeans words.now files answer.report)) }
 
     ensures kept { OnOk result (F.faults shelf.new ≡ F.faults shelf.old) }
     ensures read_only { IfErr result (λ refusal. status_of refusal ≡ 4 →
@@ -61,8 +55,7 @@ fn prepare<'a, F: Shelf>(
         Lacks (F.files shelf.old) (database_of words.now) → status_of refusal ≡ 4) }
     ensures found { OnOk result (¬ Lacks (F.files shelf.old) (database_of words.now)) }
 
-    ensures line { IfErr result
-        (λ refusal. line_of refusal ≡ line_after (status_of refusal) words.now) }
+    ensures line { IfErr result (Blames words.now) }
 {
     let command = match read_words(words) {
         Some(command) => command,
@@ -71,46 +64,41 @@ fn prepare<'a, F: Shelf>(
     let database = match read_file(alloc, shelf, command.database, DATABASE_LIMIT) {
         Ok(database) => database,
         Err(ReadFault::Failed) => return Err(Refusal::CannotRead(command.database)),
-        Err(ReadFault::TooLarge) => return Err(Refusal::NotBuilt),
+        Err(ReadFault::TooLarge) => return Err(Refusal::DatabaseTooLarge),
         Err(ReadFault::Memory) => return Err(Refusal::Memory),
     };
-    if command.script.len() > SCRIPT_LIMIT {
-        return Err(Refusal::NotBuilt);
-    }
-    match scanned_table(alloc, command.script, database.as_slice()) {
-        Ok(Some(name)) => match scan_report(alloc, name) {
-            Ok(report) => Ok(report),
-            Err(_) => Err(Refusal::Memory),
-        },
-        Ok(None) => Err(Refusal::NotBuilt),
-        Err(_) => Err(Refusal::Memory),
+    match answer_texts(alloc, command.script, database.as_slice()) {
+        Ok(answer) => Ok(answer),
+        Err(why) => Err(why),
     }
 }
 
-// Writes the whole report, or says why it did not.
+// Writes the whole report and answers the status, or says why it did not.
 fn attempt<'a, F: Shelf, O: Sink>(
     alloc: Global,
     words: &'a Words,
     shelf: &mut F,
     out: &mut O,
-) -> Result<(), Refusal<'a>>
-    ensures answered { OnOk result (IfSome (F.files shelf.old)
-        (λ files. ((run words.now files).status ≡ 0)
+) -> Result<u8, Refusal<'a>>
+    ensures answered { IfOk result (λ status. IfSome (F.files shelf.old)
+        (λ files. ((run words.now files).status ≡ status)
         × Appends (O.written out.old) (O.written out.new) (run words.now files).out)) }
+    ensures report { IfOk result (λ status. is_report status ≡ true) }
     ensures told { IfErr result (λ refusal. Stood (F.faults shelf.old) (F.faults shelf.new)
         → Stood (O.faults out.old) (O.faults out.new) → status_of refusal ≢ 6 →
         IfSome (F.files shelf.old)
         (λ files. run words.now files ≡ refused (status_of refusal) (line_of refusal))) }
-    ensures scanned { OnOk result (IfSome (F.files shelf.old) (λ files.
-        ReportsScan words.now files (run words.now files).out)) }
+    ensures means { OnOk result (IfSome (F.files shelf.old) (λ files.
+        ReportMeans words.now files (run words.now files).out)) }
     ensures whole { OnOk result (IfSome (F.files shelf.old)
         (λ files. ((run words.now files).err ≡ []))) }
     ensures refused { IfErr result (λ refusal. status_of refusal ≡ 2 → IfSome (F.files shelf.old)
-        (λ files.
-        run words.now files ≡ refused 2 not_built_line)) }
-    ensures read { OnOk result ((database : List ℕ)
-        × ((run words.now ((database_of words.now, database) ∷ [])).status ≡ 0)
-        × Appends (O.written out.old) (O.written out.new) (run words.now ((database_of words.now, database) ∷ [])).out) }
+        (λ files. run words.now files ≡ refused 2 (line_of refusal))) }
+    ensures read { IfOk result (λ status. (database : List ℕ)
+        × ((run words.now ((database_of words.now, database) ∷ [])).status ≡ status)
+        × Appends (O.written out.old) (O.written out.new) (run words.now ((database_of words.now, database) ∷ [])).out
+        × ReportMeans words.now ((database_of words.now, database) ∷ [])
+        (run words.now ((database_of words.now, database) ∷ [])).out) }
 
     ensures command { OnOk result (IsSome (command_of words.now)) }
     ensures usage { IfErr result
@@ -131,16 +119,15 @@ fn attempt<'a, F: Shelf, O: Sink>(
         → Rose (O.faults out.old) (O.faults out.new)) }
     ensures write_prefix { IfErr result (λ refusal. status_of refusal ≡ 5 →
         IfSome (F.files shelf.old) (λ files.
-        ((run words.now files).status ≡ 0)
+        (is_report (run words.now files).status ≡ true)
         × AppendsProperPrefix (O.written out.old) (O.written out.new) (run words.now files).out)) }
     ensures out_unchanged { IfErr result (λ refusal. status_of refusal ≢ 5 → out.new ≡ out.old) }
 
-    ensures line { IfErr result
-        (λ refusal. line_of refusal ≡ line_after (status_of refusal) words.now) }
+    ensures line { IfErr result (Blames words.now) }
 {
     match prepare(alloc, words, shelf) {
-        Ok(report) => match write_all(out, report.as_slice()) {
-            Ok(()) => Ok(()),
+        Ok(answer) => match write_all(out, answer.report.as_slice()) {
+            Ok(()) => Ok(answer.status),
             Err(_) => Err(Refusal::CannotWrite),
         },
         Err(refusal) => Err(refusal),
@@ -152,9 +139,10 @@ fn attempt<'a, F: Shelf, O: Sink>(
 ///
 /// | Status | When |
 /// |---|---|
-/// | 0 | the whole report was written |
+/// | 0 | the whole report was written, and each statement has a plan |
 /// | 1 | the words are no command |
-/// | 2 | the database or the script has a form that is not read yet |
+/// | 2 | the database or the script passes a limit, or the database is a file of SQLite |
+/// | 3 | the whole report was written, and it refuses some statement |
 /// | 4 | the file of the database can't be read |
 /// | 5 | the report can't be written; `out` holds a proper prefix of it |
 /// | 6 | memory was wanting before the first write |
@@ -171,25 +159,28 @@ pub fn expert<F: Shelf, O: Sink, E: Sink>(
         → Stood (E.faults err.old) (E.faults err.new) → result ≢ 6 → IfSome (F.files shelf.old)
         (λ files.
         Gives (run words.now files) result (O.written out.old) (O.written out.new) (E.written err.old) (E.written err.new)) }
-    ensures answered { result ≡ 0 → IfSome (F.files shelf.old)
-        (λ files. ((run words.now files).status ≡ 0)
+    ensures answered { is_report result ≡ true → IfSome (F.files shelf.old)
+        (λ files. ((run words.now files).status ≡ result)
         × Appends (O.written out.old) (O.written out.new) (run words.now files).out) }
     ensures refused { result ≡ 2 → IfSome (F.files shelf.old)
-        (λ files. run words.now files ≡ refused 2 not_built_line) }
+        (λ files. ((run words.now files).status ≡ 2)
+        × WritesLine (E.written err.old) (E.written err.new) (E.faults err.old) (E.faults err.new)
+        (run words.now files).err) }
     ensures exactly { Stood (F.faults shelf.old) (F.faults shelf.new)
         → Stood (O.faults out.old) (O.faults out.new)
         → result ≢ 6 → IfSome (F.files shelf.old) (λ files. result ≡ (run words.now files).status) }
-    ensures known { (result ≤ 6) × (result ≢ 3) }
+    ensures known { result ≤ 6 }
 
-    // On every database of the schema the printed plan gives the rows that the statement asks for.
-    ensures meaning { result ≡ 0 → IfSome (F.files shelf.old)
-        (λ files. IsSomeAnd (scanned words.now files) (λ scan.
-        ((run words.now files).out ≡ report_of scan.table) × MeansItsStatement scan)) }
+    // On every database of the schema each printed plan gives the rows that its statement asks for.
+    ensures meaning { is_report result ≡ true → IfSome (F.files shelf.old)
+        (λ files. ReportMeans words.now files (run words.now files).out) }
 
     // Over files that tell nothing of themselves too: what was written is the report on some bytes.
-    ensures read { result ≡ 0 → (database : List ℕ)
-        × ((run words.now ((database_of words.now, database) ∷ [])).status ≡ 0)
-        × Appends (O.written out.old) (O.written out.new) (run words.now ((database_of words.now, database) ∷ [])).out }
+    ensures read { is_report result ≡ true → (database : List ℕ)
+        × ((run words.now ((database_of words.now, database) ∷ [])).status ≡ result)
+        × Appends (O.written out.old) (O.written out.new) (run words.now ((database_of words.now, database) ∷ [])).out
+        × ReportMeans words.now ((database_of words.now, database) ∷ [])
+        (run words.now ((database_of words.now, database) ∷ [])).out }
 
     ensures usage { (result ≡ 1) ↔ (command_of words.now ≡ None) }
 
@@ -204,18 +195,17 @@ pub fn expert<F: Shelf, O: Sink, E: Sink>(
     ensures write_only { result ≡ 5 → Rose (O.faults out.old) (O.faults out.new) }
     ensures write_always { O.faults out.old < O.faults out.new → result ≡ 5 }
     ensures write_prefix { result ≡ 5 → IfSome (F.files shelf.old)
-        (λ files. ((run words.now files).status ≡ 0)
+        (λ files. (is_report (run words.now files).status ≡ true)
         × AppendsProperPrefix (O.written out.old) (O.written out.new) (run words.now files).out) }
 
-    // Nothing is written to `out` after any other status, and to `err` after 0.
-    ensures out_unchanged { result ≢ 0 → result ≢ 5 → out.new ≡ out.old }
-    ensures err_unchanged { result ≡ 0 → err.new ≡ err.old }
-    ensures err_line { result ≢ 0
-        → WritesLine (E.written err.old) (E.written err.new) (E.faults err.old) (E.faults err.new)
-        (line_after result words.now) }
+    // Nothing is written to `out` after any other status, and to `err` after a report.
+    ensures out_unchanged { is_report result ≡ false → result ≢ 5 → out.new ≡ out.old }
+    ensures err_unchanged { is_report result ≡ true → err.new ≡ err.old }
+    ensures err_line { is_report result ≡ false → (line : List ℕ) × IsLineAfter result words.now line
+        × WritesLine (E.written err.old) (E.written err.new) (E.faults err.old) (E.faults err.new) line }
 {
     match attempt(alloc, words, shelf, out) {
-        Ok(()) => 0,
+        Ok(status) => status,
         Err(refusal) => {
             refusal.complain(err);
             refusal.status()

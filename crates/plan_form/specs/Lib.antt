@@ -1,0 +1,4 @@
+pub mod Paths
+pub mod Plans
+pub mod Scans
+pub mod Texts

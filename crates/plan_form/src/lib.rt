@@ -1,0 +1,15 @@
+//! Plans: how each table of a statement is walked, and the text that tells it.
+//!
+//! What a plan answers is said over plain data, in `sql_meaning`; a plan is seen as such a one by
+//! `plan_of` of specs/Plans.antt.
+#![tactic(auto)]
+
+mod path;
+mod plan;
+mod scans;
+mod text;
+
+pub use path::{Edge, EqPart, EqParts, Keys, Path, Paths};
+pub use plan::{Loop, Plan};
+pub use scans::{scan_plan, table_scans_mean};
+pub use text::plan_text;
