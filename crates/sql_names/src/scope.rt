@@ -1,0 +1,63 @@
+//! The tables of FROM, found by the names that stand for them.
+ghost use Rattle.std.specs.Prelude.{◌≡◌, ◌<◌, ◌≤◌, length, map, Some, false, OnOk, OnErr};
+ghost use Rattle.sql_meaning.specs.Letters.{folded_bytes};
+ghost use Rattle.schema_model.specs.Names.{has_name};
+ghost use Rattle.sql_bound.specs.Statements.{item_of};
+ghost use Rattle.sql_names.specs.Scopes.{no_items, with_item, table_at, IsScope};
+
+use schema_model::{Names, Schema, Table};
+use sql_bound::BItem;
+use sql_value::Memory;
+use std::alloc::Global;
+use std::marker::Model;
+
+/// The tables of FROM as items, numbered from 0, each found by one hash of its name: its alias, or
+/// the table's name where it has none.
+#[derive(Drop)]
+pub struct Scope<'a> {
+    schema: &'a Schema,
+    names: Names,
+    items: Vec<BItem<'a>>,
+}
+
+impl<'a> Model for Scope<'a> {
+    ghost use Rattle.sql_names.specs.Scopes.{Scope as Plain};
+
+    ghost Value = { Plain };
+
+    ghost use Rattle.sql_names.specs.ScopeView.{seen, IsSeenScope};
+
+    ghost view = { seen };
+
+    ghost invariant = { IsSeenScope };
+}
+
+impl<'a> Scope<'a> {
+    /// No items.
+    pub fn new(alloc: Global, schema: &'a Schema) -> Self
+        ensures { result ≡ no_items schema.now }
+    {
+        Scope {
+            schema,
+            names: Names::new(alloc),
+            items: Vec::new(alloc),
+        }
+    }
+
+    /// Appends an item under a name that no item has. After `Memory` the scope is as it was.
+    pub fn push(&mut self, alloc: Global, name: &[u8], item: BItem<'a>) -> Result<(), Memory>
+        requires free { has_name (folded_bytes name.now) self.old.names ≡ false }
+        requires room { length self.old.items < 64 }
+        requires table { item.table < length self.old.schema.tables }
+        ensures ok { OnOk result
+            (self.new ≡ with_item self.old (folded_bytes name.now) (item_of item.entry)) }
+        ensures err { OnErr result (self.new ≡ self.old) }
+    {
+        self.names.add(alloc, name)?;
+        let Ok(()) = self.items.push(item) else {
+            self.names.forget();
+            return Err(Memory);
+        };
+        Ok(())
+    }
+}
