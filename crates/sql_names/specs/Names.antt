@@ -8,7 +8,6 @@ use Rattle.sql_meaning.specs.Letters.{folded_bytes}
 use Rattle.sql_meaning.specs.Values.{Null, Int}
 use Rattle.sql_meaning.specs.Expressions.{BExpr, Lit, Column, Rowid}
 use Rattle.sql_meaning.specs.Statements.{numbers_from}
-use Rattle.sql_value.specs.Keywords.{same_word}
 use Rattle.schema_model.specs.Names.{is_name, has_name}
 use Rattle.schema_model.specs.Schemas.{found_column}
 use Rattle.schema_model.specs.declared.tables.Table.{Table}
@@ -16,10 +15,11 @@ use Rattle.sql_names.specs.Scopes.{Scope, table_at}
 use Rattle.sql_names.specs.declared.faults.BindFault.{BindFault}
 use Rattle.sql_names.specs.declared.faults.BindFault.TheVariants.{NoSuchColumn, AmbiguousColumn}
 
+-- A name that is looked for in tables, `lower` here, has its letters made lower.
+
 -- one of the three names of the rowid
 abbrev pub is_rowid_name : List ℕ → Bool
-is_rowid_name name =
-    has_name (folded_bytes name) (codes "rowid" ∷ codes "oid" ∷ codes "_rowid_" ∷ [])
+is_rowid_name lower = has_name lower (codes "rowid" ∷ codes "oid" ∷ codes "_rowid_" ∷ [])
 
 abbrev pub is_alias : Option ℕ → ℕ → Bool
 is_alias None column = false
@@ -31,29 +31,29 @@ column_expr alias item column = cond (is_alias alias column) (Rowid item) (Colum
 
 -- an item's column of a name
 abbrev pub column_in : ℕ → Option Table → List ℕ → Option BExpr
-column_in item None name = None
-column_in item (Some table) name =
-    option_map (column_expr table.alias item) (found_column table (folded_bytes name))
+column_in item None lower = None
+column_in item (Some table) lower =
+    option_map (column_expr table.alias item) (found_column table lower)
 
 abbrev pub rowid_in : ℕ → List ℕ → Option BExpr
-rowid_in item name = cond (is_rowid_name name) (Some (Rowid item)) None
+rowid_in item lower = cond (is_rowid_name lower) (Some (Rowid item)) None
 
 -- an item's column of a name, or else its rowid by one of the rowid's names
 abbrev pub named_in : ℕ → Option Table → List ℕ → Option BExpr
-named_in item table name = option_or (column_in item table name) (rowid_in item name)
+named_in item table lower = option_or (column_in item table lower) (rowid_in item lower)
 
 -- the number of the item that a name stands for
 abbrev pub item_named : Scope → List ℕ → Option ℕ
 item_named scope name = position (is_name (folded_bytes name)) scope.names
 
 abbrev pub named_at : Scope → List ℕ → Option ℕ → Option BExpr
-named_at scope name None = None
-named_at scope name (Some item) = named_in item (table_at scope item) name
+named_at scope lower None = None
+named_at scope lower (Some item) = named_in item (table_at scope item) lower
 
 -- the columns of a name, of all items
 abbrev pub columns_named : Scope → List ℕ → List BExpr
-columns_named scope name =
-    filter_map (λ item. column_in item (table_at scope item) name)
+columns_named scope lower =
+    filter_map (λ item. column_in item (table_at scope item) lower)
     (numbers_from 0 (length scope.items))
 
 pub data Meaning : Type 0 where
@@ -63,9 +63,9 @@ pub data Meaning : Type 0 where
 
 -- TRUE and FALSE are 1 and 0
 abbrev pub constant : List ℕ → Meaning
-constant name =
-    cond (same_word name (codes "true")) (Means (Lit (Int (pos 1)))) (
-    cond (same_word name (codes "false")) (Means (Lit (Int (pos 0)))) Unknown)
+constant lower =
+    cond (is_name lower (codes "true")) (Means (Lit (Int (pos 1)))) (
+    cond (is_name lower (codes "false")) (Means (Lit (Int (pos 0)))) Unknown)
 
 -- the rowid of the one item
 abbrev pub only_rowid : ℕ → Meaning
@@ -73,8 +73,8 @@ only_rowid count = cond (count == 1) (Means (Rowid 0)) Ambiguous
 
 -- a name that no item has as a column
 abbrev pub without_column : Scope → List ℕ → Meaning
-without_column scope name =
-    cond (is_rowid_name name) (only_rowid (length scope.items)) (constant name)
+without_column scope lower =
+    cond (is_rowid_name lower) (only_rowid (length scope.items)) (constant lower)
 
 abbrev pub among : List BExpr → Meaning → Meaning
 among [] other = other
@@ -85,10 +85,15 @@ abbrev pub if_known : Option BExpr → Meaning
 if_known None = Unknown
 if_known (Some e) = Means e
 
--- a name behind its table's is looked for in that item alone, any other one in all of them
+abbrev pub bare_meaning : Scope → List ℕ → Meaning
+bare_meaning scope lower = among (columns_named scope lower) (without_column scope lower)
+
+-- a name behind its table's is looked for in that item alone, any other one in all of them; both
+-- are as they are written
 abbrev pub meaning_of : Scope → Option (List ℕ) → List ℕ → Meaning
-meaning_of scope None name = among (columns_named scope name) (without_column scope name)
-meaning_of scope (Some table) name = if_known (named_at scope name (item_named scope table))
+meaning_of scope None name = bare_meaning scope (folded_bytes name)
+meaning_of scope (Some table) name =
+    if_known (named_at scope (folded_bytes name) (item_named scope table))
 
 -- the name as it is written
 abbrev pub shown : Option (List ℕ) → List ℕ → List ℕ

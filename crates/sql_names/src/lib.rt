@@ -2,7 +2,9 @@
 #![tactic(auto)]
 
 mod faults;
+mod names;
 mod scope;
 
 pub use faults::BindFault;
+pub use names::{bind_name, column_expr, named_in};
 pub use scope::Scope;

@@ -1,13 +1,15 @@
 //! The tables of FROM, found by the names that stand for them.
-ghost use Rattle.std.specs.Prelude.{◌≡◌, ◌<◌, ◌≤◌, length, map, Some, false, OnOk, OnErr};
+ghost use Rattle.std.specs.Prelude.{◌≡◌, ◌<◌, ◌≤◌, length, map, Some, false, OnOk, OnErr, IfOk, IfSome};
 ghost use Rattle.sql_meaning.specs.Letters.{folded_bytes};
 ghost use Rattle.schema_model.specs.Names.{has_name};
 ghost use Rattle.sql_bound.specs.Statements.{item_of};
-ghost use Rattle.sql_names.specs.Scopes.{no_items, with_item, table_at, IsScope};
+ghost use Rattle.schema_model.specs.Schemas.{IsTable};
+ghost use Rattle.sql_names.specs.Scopes.{no_items, with_item, table_at};
+ghost use Rattle.sql_names.specs.Names.{item_named};
 
-use schema_model::{Names, Schema, Table};
+use schema_model::{Names, Schema, Table, schema_is_sound};
 use sql_bound::BItem;
-use sql_value::Memory;
+use sql_value::{Memory, fold};
 use std::alloc::Global;
 use std::marker::Model;
 
@@ -59,5 +61,49 @@ impl<'a> Scope<'a> {
             return Err(Memory);
         };
         Ok(())
+    }
+
+    /// The schema. Takes no memory.
+    pub fn schema(&self) -> &Schema
+        ensures { result.now ≡ self.now.schema }
+    {
+        self.schema
+    }
+
+    /// The items, in order. Takes no memory.
+    pub fn items(&self) -> &[BItem<'a>]
+        ensures { map item_of result.now ≡ self.now.items }
+    {
+        self.items.as_slice()
+    }
+
+    /// How many items there are. Takes no memory.
+    pub fn count(&self) -> u32
+        ensures count { result ≡ length self.now.items }
+        ensures few { result ≤ 64 }
+    {
+        self.items.len() as u32
+    }
+
+    /// The table of an item. Takes no memory.
+    pub fn table(&self, item: u32) -> &Table
+        requires { item < length self.now.items }
+        ensures found { table_at self.now item ≡ Some result.now }
+        ensures sound { IsTable result.now }
+    {
+        schema_is_sound(self.schema);
+        self.schema.table(self.items[item as usize].table)
+    }
+
+    /// The number of the item that a name stands for, by one hash.
+    pub fn item_named(&self, alloc: Global, name: &[u8]) -> Result<Option<u32>, Memory>
+        ensures found { IfOk result (λ item. item ≡ item_named self.now name.now) }
+        ensures within { IfOk result (λ item. IfSome item (λ number. number < length self.now.items)) }
+    {
+        let lower = fold(alloc, name)?;
+        match self.names.find(lower.as_slice()) {
+            Some(item) => Ok(Some(item as u32)),
+            None => Ok(None),
+        }
     }
 }
