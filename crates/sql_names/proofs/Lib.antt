@@ -1,1 +1,5 @@
 pub mod Pushes
+pub mod Lists
+pub mod Checks
+pub mod Tables
+pub mod Sound

@@ -1,5 +1,5 @@
 -- What an expression is bound to, and the checks on its names (datatype3, 4; lang_expr).
-use Rattle.std.specs.Prelude.{Bool, true, false, Option, None, List, [], ◌∷◌, ◌++◌}
+use Rattle.std.specs.Prelude.{Bool, true, false, Option, None, List, [], ◌∷◌, ◌++◌, map}
 use Rattle.sql_meaning.specs.Conversions.{side_conversion}
 use Rattle.sql_meaning.specs.Values.{Affinity}
 use Rattle.sql_meaning.specs.Items.{expr_affinity}
@@ -84,3 +84,7 @@ abbrev mutual
   pub all_checks : Scope → Trees → List (Option BindFault)
   all_checks scope end = []
   all_checks scope (more x xs) = expr_checks scope x ++ all_checks scope xs
+
+-- the trees of the members of a form that has a list of them
+abbrev pub trees_of : Exprs → Trees
+trees_of list = trees (map tree_of (map (λ member. member.now) list.members.now))

@@ -95,6 +95,14 @@ impl<'a> Scope<'a> {
         self.schema.table(self.items[item as usize].table)
     }
 
+    /// Whether the name of an item equals the name but for the case of ASCII letters, by one hash.
+    pub fn has_name(&self, alloc: Global, name: &[u8]) -> Result<bool, Memory>
+        ensures { IfOk result (λ is. is ≡ has_name (folded_bytes name.now) self.now.names) }
+    {
+        let lower = fold(alloc, name)?;
+        Ok(self.names.has(lower.as_slice()))
+    }
+
     /// The number of the item that a name stands for, by one hash.
     pub fn item_named(&self, alloc: Global, name: &[u8]) -> Result<Option<u32>, Memory>
         ensures found { IfOk result (λ item. item ≡ item_named self.now name.now) }

@@ -1,0 +1,33 @@
+-- Checks after checks.
+use Rattle.std.proofs.Common.{◌≡◌, Option, None, Some, List, [], ◌∷◌, ◌++◌, refl}
+use Rattle.sql_names.specs.Faults.{first_failing}
+use Rattle.sql_names.specs.declared.faults.BindFault.{BindFault}
+use Rattle.sql_names.specs.declared.faults.BindFault.TheVariants.{Memory}
+
+pub passed_first : (xs ys : List (Option BindFault)) → first_failing xs ≡ None
+    → first_failing (xs ++ ys) ≡ first_failing ys
+passed_first [] ys h = refl
+passed_first (None ∷ xs) ys h = passed_first xs ys h
+passed_first (Some fault ∷ xs) ys h = absurd (cc)
+
+pub failed_first : (fault : BindFault) (xs ys : List (Option BindFault))
+    → first_failing xs ≡ Some fault → first_failing (xs ++ ys) ≡ Some fault
+failed_first fault [] ys h = absurd (cc)
+failed_first fault (None ∷ xs) ys h = failed_first fault xs ys h
+failed_first fault (Some other ∷ xs) ys h = h
+
+-- the first failing check of a front is that of the whole
+pub fails_through : (fault : BindFault) (xs ys : List (Option BindFault))
+    → ((fault ≡ Memory → ⊥) → first_failing xs ≡ Some fault)
+    → (fault ≡ Memory → ⊥) → first_failing (xs ++ ys) ≡ Some fault
+fails_through fault xs ys h other = failed_first fault xs ys (h other)
+
+-- where a front passes, the first failing check of the rest is that of the whole
+pub fails_after : (fault : BindFault) (xs ys : List (Option BindFault)) → first_failing xs ≡ None
+    → ((fault ≡ Memory → ⊥) → first_failing ys ≡ Some fault)
+    → (fault ≡ Memory → ⊥) → first_failing (xs ++ ys) ≡ Some fault
+fails_after fault xs ys passed h other = rw (passed_first xs ys passed) (h other)
+
+pub both_pass : (xs ys : List (Option BindFault)) → first_failing xs ≡ None
+    → first_failing ys ≡ None → first_failing (xs ++ ys) ≡ None
+both_pass xs ys h k = rw (passed_first xs ys h) k
