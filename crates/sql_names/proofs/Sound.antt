@@ -33,7 +33,7 @@ wide : (schema : Schema) (item : Option Item) (table : Table) → table_of schem
     ≡ length table.columns
 wide schema None table h = absurd (cc)
 wide schema (Some item) table h =
-    rw (slice_get-map plain_table schema.tables item.table, h) (length-map plain_column table.columns)
+    rw (slice_get-map plain_table schema.tables item.table, h) (length-map table.columns plain_column)
 
 there : (schema : Schema) (items : List Item) (number : ℕ) (item : Option Item) (table : Table)
     → slice_get items number ≡ item → table_of schema item ≡ Some table → number < length items
@@ -122,10 +122,10 @@ named_sound scope lower (Some item) within =
     (column_sound scope item (table_at scope item) lower refl)
     (rowid_if_sound scope item (is_rowid_name lower) (within item refl))
 
-constant_sound : (scope : Scope) (yes no : Bool)
+constant_sound : (scope : Scope) (first second : Bool)
     → Means_sound scope
-    (cond yes (Means (Lit (Int (pos 1)))) (cond no (Means (Lit (Int (pos 0)))) Unknown))
-constant_sound scope true no = record { names = tt; conversions = tt }
+    (cond first (Means (Lit (Int (pos 1)))) (cond second (Means (Lit (Int (pos 0)))) Unknown))
+constant_sound scope true second = record { names = tt; conversions = tt }
 constant_sound scope false true = record { names = tt; conversions = tt }
 constant_sound scope false false = nothing_sound scope
 
@@ -178,9 +178,9 @@ mutual
   exist scope is (tree.Collate x name) = exist scope is x
   exist scope is (tree.Cmp op x y) = (exist scope is x, exist scope is y)
   exist scope is (tree.Between true x low high) =
-      ((exist scope is x, exist scope is low), (exist scope is x, exist scope is high), tt)
+      ((exist scope is x, exist scope is low), ((exist scope is x, exist scope is high), tt))
   exist scope is (tree.Between false x low high) =
-      ((exist scope is x, exist scope is low), (exist scope is x, exist scope is high), tt)
+      ((exist scope is x, exist scope is low), ((exist scope is x, exist scope is high), tt))
   exist scope is (tree.OneOf negated x xs) = (exist scope is x, all_exist scope is xs)
   exist scope is (tree.IsNull negated x) = exist scope is x
   exist scope is (tree.Not x) = exist scope is x
@@ -203,13 +203,11 @@ mutual
   fits scope is (tree.Cmp op x y) = (refl, refl, fits scope is x, fits scope is y)
   fits scope is (tree.Between true x low high) = (
     (refl, refl, fits scope is x, fits scope is low),
-    (refl, refl, fits scope is x, fits scope is high),
-    tt,
+    ((refl, refl, fits scope is x, fits scope is high), tt),
   )
   fits scope is (tree.Between false x low high) = (
     (refl, refl, fits scope is x, fits scope is low),
-    (refl, refl, fits scope is x, fits scope is high),
-    tt,
+    ((refl, refl, fits scope is x, fits scope is high), tt),
   )
   fits scope is (tree.OneOf negated x xs) = (refl, fits scope is x, all_fit scope is xs)
   fits scope is (tree.IsNull negated x) = fits scope is x

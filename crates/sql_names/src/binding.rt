@@ -1,11 +1,12 @@
 //! Expressions with their names bound.
 ghost use Rattle.std.specs.Prelude.{◌≡◌, ◌++◌, ◌∷◌, [], map, IfOk, OnOk};
 ghost use Rattle.sql_tree.specs.Trees.{tree_of};
-ghost use Rattle.sql_tree.specs.Trees as tree;
+ghost use Rattle.sql_meaning.specs.Expressions as plain;
 ghost use Rattle.sql_bound.specs.Expressions.{expr_of, exprs, plain_op};
 ghost use Rattle.sql_names.specs.Faults.{Answers};
 ghost use Rattle.sql_names.specs.Binding as meant;
 ghost use Rattle.sql_names.specs.Binding.{trees_of};
+ghost use Rattle.sql_names.specs.Collating.{collation_check, collation_or};
 ghost use Rattle.sql_names.specs.Laws.{BoundIsSound};
 
 use crate::collating::{affinity, bind_collation, collation_of, compared_under};
@@ -47,6 +48,20 @@ fn one_of<'a>(
     let conv = conversions(None, affinity(scope, &left));
     let coll = collation_of(scope, &left);
     sql_bound::one_of(arena, negated, left, entries, conv.left, coll)
+}
+
+/// An expression under the collation of a name.
+fn collated<'a>(
+    alloc: Global,
+    arena: &'a Bump,
+    inner: BExpr<'a>,
+    name: &[u8],
+) -> Result<BExpr<'a>, BindFault>
+    ensures { Answers expr_of result (collation_check name.now ∷ [])
+        (plain.Collate (expr_of inner.entry) (collation_or name.now)) }
+{
+    let coll = bind_collation(alloc, name)?;
+    Ok(sql_bound::collate(arena, inner, coll)?)
 }
 
 /// BETWEEN as the AND of its two comparisons, that with the lower bound first.
@@ -105,13 +120,25 @@ pub fn bind_expr<'a>(
             let inner = bind_expr(alloc, arena, scope, inner)?;
             Ok(sql_bound::plus(arena, inner)?)
         }
-        Expr::Collate(inner, name) => bind_collate(alloc, arena, scope, inner, name),
-        Expr::Cmp(op, left, right) => bind_cmp(alloc, arena, scope, *op, left, right),
-        Expr::Between(negated, inner, low, high) => {
-            bind_between(alloc, arena, scope, *negated, inner, low, high)
+        Expr::Collate(operand, name) => {
+            let operand = bind_expr(alloc, arena, scope, operand)?;
+            collated(alloc, arena, operand, name)
         }
-        Expr::OneOf(negated, left, entries) => {
-            bind_one_of(alloc, arena, scope, *negated, left, entries)
+        Expr::Cmp(op, left, right) => {
+            let left = bind_expr(alloc, arena, scope, left)?;
+            let right = bind_expr(alloc, arena, scope, right)?;
+            Ok(compared(arena, scope, *op, left, right)?)
+        }
+        Expr::Between(negated, middle, low, high) => {
+            let middle = bind_expr(alloc, arena, scope, middle)?;
+            let low = bind_expr(alloc, arena, scope, low)?;
+            let high = bind_expr(alloc, arena, scope, high)?;
+            Ok(between(arena, scope, *negated, middle, low, high)?)
+        }
+        Expr::OneOf(negated, sought, entries) => {
+            let sought = bind_expr(alloc, arena, scope, sought)?;
+            let entries = bind_all(alloc, arena, scope, entries)?;
+            Ok(one_of(arena, scope, *negated, sought, entries.as_slice())?)
         }
         Expr::IsNull(negated, inner) => {
             let inner = bind_expr(alloc, arena, scope, inner)?;
@@ -130,81 +157,6 @@ pub fn bind_expr<'a>(
             Ok(sql_bound::any(arena, members.as_slice())?)
         }
     }
-}
-
-#[cycle(bind_expr)]
-fn bind_collate<'a>(
-    alloc: Global,
-    arena: &'a Bump,
-    scope: &Scope,
-    inner: &Expr<'a>,
-    name: &[u8],
-) -> Result<BExpr<'a>, BindFault>
-    ensures { Answers expr_of result
-        (meant.expr_checks scope.now (tree.Collate (tree_of inner.now) name.now))
-        (meant.bound scope.now (tree.Collate (tree_of inner.now) name.now)) }
-{
-    let inner = bind_expr(alloc, arena, scope, inner)?;
-    let coll = bind_collation(alloc, name)?;
-    Ok(sql_bound::collate(arena, inner, coll)?)
-}
-
-#[cycle(bind_expr)]
-fn bind_cmp<'a>(
-    alloc: Global,
-    arena: &'a Bump,
-    scope: &Scope,
-    op: Op,
-    left: &Expr<'a>,
-    right: &Expr<'a>,
-) -> Result<BExpr<'a>, BindFault>
-    ensures { Answers expr_of result
-        (meant.expr_checks scope.now (tree.Cmp op (tree_of left.now) (tree_of right.now)))
-        (meant.bound scope.now (tree.Cmp op (tree_of left.now) (tree_of right.now))) }
-{
-    let left = bind_expr(alloc, arena, scope, left)?;
-    let right = bind_expr(alloc, arena, scope, right)?;
-    Ok(compared(arena, scope, op, left, right)?)
-}
-
-#[cycle(bind_expr)]
-fn bind_between<'a>(
-    alloc: Global,
-    arena: &'a Bump,
-    scope: &Scope,
-    negated: bool,
-    inner: &Expr<'a>,
-    low: &Expr<'a>,
-    high: &Expr<'a>,
-) -> Result<BExpr<'a>, BindFault>
-    ensures { Answers expr_of result
-        (meant.expr_checks scope.now
-        (tree.Between negated (tree_of inner.now) (tree_of low.now) (tree_of high.now)))
-        (meant.bound scope.now
-        (tree.Between negated (tree_of inner.now) (tree_of low.now) (tree_of high.now))) }
-{
-    let inner = bind_expr(alloc, arena, scope, inner)?;
-    let low = bind_expr(alloc, arena, scope, low)?;
-    let high = bind_expr(alloc, arena, scope, high)?;
-    Ok(between(arena, scope, negated, inner, low, high)?)
-}
-
-#[cycle(bind_expr)]
-fn bind_one_of<'a>(
-    alloc: Global,
-    arena: &'a Bump,
-    scope: &Scope,
-    negated: bool,
-    left: &Expr<'a>,
-    entries: &Exprs<'a>,
-) -> Result<BExpr<'a>, BindFault>
-    ensures { Answers expr_of result
-        (meant.expr_checks scope.now (tree.OneOf negated (tree_of left.now) (trees_of entries.now)))
-        (meant.bound scope.now (tree.OneOf negated (tree_of left.now) (trees_of entries.now))) }
-{
-    let left = bind_expr(alloc, arena, scope, left)?;
-    let entries = bind_all(alloc, arena, scope, entries)?;
-    Ok(one_of(arena, scope, negated, left, entries.as_slice())?)
 }
 
 #[cycle(bind_expr)]
