@@ -1,6 +1,6 @@
 -- Checks after checks.
-use Rattle.std.proofs.Common.{◌≡◌, Option, None, Some, List, [], ◌∷◌, ◌++◌, refl}
-use Rattle.sql_names.specs.Faults.{first_failing}
+use Rattle.std.proofs.Common.{◌≡◌, ◌∙◌, Option, None, Some, Result, Ok, Err, List, [], ◌∷◌, ◌++◌, refl}
+use Rattle.sql_names.specs.Faults.{first_failing, Answers}
 use Rattle.sql_names.specs.declared.faults.BindFault.{BindFault}
 use Rattle.sql_names.specs.declared.faults.BindFault.TheVariants.{Memory}
 
@@ -31,3 +31,10 @@ fails_after fault xs ys passed h other = rw (passed_first xs ys passed) (h other
 pub both_pass : (xs ys : List (Option BindFault)) → first_failing xs ≡ None
     → first_failing ys ≡ None → first_failing (xs ++ ys) ≡ None
 both_pass xs ys h k = rw (passed_first xs ys h) k
+
+-- what is said of the checks that come after some that pass
+pub answers_after : {X Y : Type 0} (view : X → Y) (r : Result X BindFault)
+    (xs ys : List (Option BindFault)) (meant whole : Y) → first_failing xs ≡ None → meant ≡ whole
+    → Answers view r ys meant → Answers view r (xs ++ ys) whole
+answers_after view (Ok x) xs ys meant whole passed is h = (both_pass xs ys passed h.0, h.1 ∙ is)
+answers_after view (Err fault) xs ys meant whole passed is h = fails_after fault xs ys passed h

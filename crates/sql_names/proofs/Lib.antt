@@ -4,4 +4,6 @@ pub mod Checks
 pub mod Tables
 pub mod Sound
 pub mod Columns
+pub mod Trees
+pub mod Parts
 pub mod Turns
