@@ -1,6 +1,6 @@
 -- What is bound is sound.
 use Rattle.std.proofs.Common.{◌≡◌, ◌<◌, ℕ, Bool, true, false, cond, Option, None, Some, option_map}
-use Rattle.std.proofs.Common.{List, [], ◌∷◌, length, map, codes, pos, refl, ◌==◌, arith, eqb-true}
+use Rattle.std.proofs.Common.{List, [], ◌∷◌, length, codes, pos, refl, ◌==◌, arith, eqb-true}
 use Rattle.std.specs.List.{AllByRecursion, slice_get, filter_map, cons_option}
 use Rattle.std.specs.Option.{option_or}
 use Rattle.std.proofs.lemmas.Option.{slice_get-map, slice_get_within}
@@ -21,8 +21,8 @@ use Rattle.schema_model.specs.declared.tables.Table.{Table}
 use Rattle.sql_bound.specs.Fits.{IsSound, NamesExist, AllNamesExist, width}
 use Rattle.sql_names.specs.Scopes.{Scope, IsScope, table_of, table_at}
 use Rattle.sql_names.specs.Names.{Meaning, Means, Ambiguous, Unknown, is_alias, column_expr, column_in}
-use Rattle.sql_names.specs.Names.{rowid_in, named_in, named_at, item_named, columns_named, among}
-use Rattle.sql_names.specs.Names.{constant, only_rowid, without_column, if_known, meaning_of}
+use Rattle.sql_names.specs.Names.{rowid_in, named_at, item_named, columns_named, among}
+use Rattle.sql_names.specs.Names.{constant, only_rowid, without_column, if_known}
 use Rattle.sql_names.specs.Names.{meant_expr, name_expr, is_rowid_name}
 use Rattle.sql_names.specs.Binding.{bound, all_bound}
 use Rattle.sql_names.specs.Laws.{BoundIsSound}
@@ -82,7 +82,7 @@ found_sound : (scope : Scope) (item : ℕ) (table : Table) → table_at scope it
 found_sound scope item table is None within = tt
 found_sound scope item table is (Some n) within =
     let small : n < width (plain_schema scope.schema) scope.items item =
-        rw (wide scope.schema (slice_get scope.items item) table is) (within n refl) in
+    rw (wide scope.schema (slice_get scope.items item) table is) (within n refl) in
     chosen scope (is_alias table.alias n) item n
     (there scope.schema scope.items item (slice_get scope.items item) table refl is) small
 

@@ -1,6 +1,6 @@
 -- Members in turn.
 use Rattle.std.proofs.Common.{◌≡◌, ◌<◌, ◌≤◌, ◌+◌, ℕ, Option, None, Some, List, [], ◌∷◌, ◌++◌, length}
-use Rattle.std.proofs.Common.{map, drop, get_or, refl, ap, ap₂, sym, ◌∙◌, add-one, drop-cons}
+use Rattle.std.proofs.Common.{map, drop, get_or, refl, ap, sym, ◌∙◌, add-one, drop-cons}
 use Rattle.std.proofs.lemmas.List.{map-append, drop_all}
 use Rattle.std.specs.Borrow.{Bor}
 use Rattle.sql_tree.specs.Trees.{Trees, trees, tree_of, more}
@@ -39,7 +39,7 @@ module _ (scope : Scope) (members : List (Bor Expr)) (i : ℕ) where
   cut : (d : Bor Expr) → i < length members → tree_members (drop i members) ≡ here d
   cut d below =
       let turn : drop i members ≡ get_or members i d ∷ drop (i + 1) members =
-          rw add-one (drop-cons members i d below) in
+      rw add-one (drop-cons members i d below) in
       ap tree_members turn
 
   pub checks_turn : (d : Bor Expr) (whole : Option BindFault) → i < length members

@@ -1,5 +1,4 @@
-use Rattle.std.proofs.Common.{◌≡◌, ◌++◌, map, drop}
-use Rattle.sql_tree.specs.Trees.{trees, tree_of}
+use Rattle.std.proofs.Common.{◌≡◌, map, drop}
 use Rattle.sql_bound.specs.Expressions.{expr_of}
 use Rattle.sql_names.specs.Faults.{first_failing}
 use Rattle.sql_names.specs.Binding.{all_checks, all_bound, trees_of}

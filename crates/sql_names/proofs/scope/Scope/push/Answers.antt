@@ -1,9 +1,7 @@
-use Rattle.std.proofs.Common.{rules, ◌≡◌, ◌<◌, ◌≤◌, length, map, Some, false, OnOk, OnErr, ℕ, ◌++◌, ◌∷◌, []}
+use Rattle.std.proofs.Common.{rules, ◌≡◌, ◌++◌, ◌∷◌, []}
 use Rattle.std.proofs.lemmas.List.{map-append}
 use Rattle.sql_meaning.specs.Letters.{folded_bytes}
-use Rattle.schema_model.specs.Names.{has_name}
 use Rattle.sql_bound.specs.Statements.{item_of}
-use Rattle.sql_names.specs.Scopes.{no_items, with_item, table_at, IsScope}
 use Rattle.sql_names.specs.ScopeView.{seen}
 use Rattle.sql_names.proofs.Pushes.{with_item_is_scope}
 use Rattle.sql_names.proofs.scope.Scope.push.Goals as goal
