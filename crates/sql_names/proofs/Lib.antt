@@ -1,0 +1,9 @@
+pub mod Pushes
+pub mod Lists
+pub mod Checks
+pub mod Tables
+pub mod Sound
+pub mod Columns
+pub mod Trees
+pub mod Parts
+pub mod Turns

@@ -1,0 +1,10 @@
+-- What a name is found to mean, as plain data.
+use Rattle.sql_bound.specs.Expressions.{expr_of}
+use Rattle.sql_names.specs.Names as plain
+use Rattle.sql_names.specs.declared.names.Meaning.{Meaning}
+use Rattle.sql_names.specs.declared.names.Meaning.TheVariants.{Means, Ambiguous, Unknown}
+
+abbrev pub plain_meaning : Meaning → plain.Meaning
+plain_meaning (Means e) = plain.Means (expr_of e)
+plain_meaning Ambiguous = plain.Ambiguous
+plain_meaning Unknown = plain.Unknown
