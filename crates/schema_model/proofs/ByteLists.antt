@@ -1,5 +1,5 @@
 -- What a slice of bytes holds.
-use Rattle.std.proofs.Common.{ℕ, zero, suc, ◌<◌, List, [], ◌∷◌, slice_index_or, Fits, w8, arith}
+use Rattle.std.proofs.Common.{ℕ, suc, ◌<◌, List, [], ◌∷◌, slice_index_or, Fits, w8, arith}
 use Rattle.sql_meaning.specs.Values.{IsBytes}
 
 below_256 : (b : ℕ) → Fits w8 b → b < 256

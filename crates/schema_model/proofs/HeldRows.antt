@@ -1,20 +1,20 @@
 -- A database, table by table and value by value.
-use Rattle.std.proofs.Common.{◌≡◌, ℕ, zero, suc, ◌<◌, List, [], ◌∷◌, length, map, get_or, slice_get, slice_index_or, Option, Some, None, refl, ap, sym, subst, ◌∙◌, arith}
+use Rattle.std.proofs.Common.{◌≡◌, ◌≢◌, ℕ, zero, suc, List, [], ◌∷◌, length, map, slice_get, slice_index_or, Some, refl, ap, sym, subst, ◌∙◌, arith}
 use Rattle.std.specs.List.{AllByRecursion}
 use Rattle.schema_model.proofs.Sound.{all_map}
-use Rattle.sql_meaning.specs.Values.{Value, Null, Int, IsValue}
+use Rattle.sql_meaning.specs.Values.{Value, Null, IsValue}
 use Rattle.sql_meaning.specs.Conversions.{IsFixed}
 use Rattle.sql_meaning.specs.Rows.{Row}
-use Rattle.sql_meaning.specs.Schemas as plain
-use Rattle.sql_meaning.specs.Schemas.{TableColumn, RisingRows, AliasHolds, ConformsTo, IsDatabaseOf}
-use Rattle.sql_value.specs.View.{plain_affinity}
+use Rattle.sql_meaning.specs.Schemas.{TableColumn, RisingRows, ConformsTo}
+use Rattle.sql_value.specs.View.{plain_value}
+use Rattle.sql_value.specs.declared.values.Value as stored
 use Rattle.schema_model.specs.declared.columns.Column.{Column}
 use Rattle.schema_model.specs.declared.tables.Table.{Table}
 use Rattle.schema_model.specs.declared.rows.Row as code
 use Rattle.schema_model.specs.Schemas.{Schema}
-use Rattle.schema_model.specs.PlainSchemas.{plain_column, plain_table, plain_schema, plain_database}
+use Rattle.schema_model.specs.PlainSchemas.{plain_column, plain_table, plain_database}
 use Rattle.schema_model.specs.Databases.{IsDatabase}
-use Rattle.schema_model.specs.HeldRows.{IsHeld, AreHeld, IsHeldRow, AreRowsOf, AreRows}
+use Rattle.schema_model.specs.HeldRows.{AreHeld, IsHeldRow, AreRows}
 
 some_is : {X : Type 0} (x y : X) → Some x ≡ Some y → x ≡ y
 some_is x y e = cc
@@ -94,9 +94,10 @@ rows_of_all : (tables : List Table) (more : List (List Row)) → length more ≡
 rows_of_all [] [] e f g = tt
 rows_of_all [] (r ∷ rs) e f g = absurd (omega (arith, e))
 rows_of_all (t ∷ ts) [] e f g = absurd (omega (arith, e))
-rows_of_all (t ∷ ts) (r ∷ rs) e f g =
-    (record { rising = f 0; held = all_map (ConformsTo (Some (plain_table t))) (IsHeldRow t) r (conforms_held t) (g 0) }
-    , rows_of_all ts rs (omega (arith, e)) (λ n. f (suc n)) (λ n. g (suc n)))
+rows_of_all (t ∷ ts) (r ∷ rs) e f g = (
+  record { rising = f 0; held = all_map (ConformsTo (Some (plain_table t))) (IsHeldRow t) r (conforms_held t) (g 0) },
+  rows_of_all ts rs (omega (arith, e)) (λ n. f (suc n)) (λ n. g (suc n)),
+)
 
 same_count : (rows : List (List code.Row)) → length (plain_database rows) ≡ length rows
 same_count [] = refl
@@ -111,3 +112,15 @@ rows_are_database schema rows h = record {
 pub database_has_rows : (schema : Schema) (rows : List (List code.Row)) → IsDatabase schema rows → AreRows schema.tables (plain_database rows)
 database_has_rows schema rows d =
     rows_of_all schema.tables (plain_database rows) (same_count rows ∙ d.counted) d.sound.rising d.sound.conforms
+
+pub other_count : (columns : List Column) (values : List stored.Value) → length columns ≢ length values → AreHeld columns (map plain_value values) → ⊥
+other_count [] [] h a = h refl
+other_count [] (v ∷ vs) h a = a
+other_count (c ∷ cs) [] h a = a
+other_count (c ∷ cs) (v ∷ vs) h a = other_count cs vs (λ e. h (ap suc e)) a.1
+
+pub other_count_of_rows : (tables : List Table) (lists : List (List code.Row)) → length tables ≢ length lists → AreRows tables (plain_database lists) → ⊥
+other_count_of_rows [] [] h a = h refl
+other_count_of_rows [] (r ∷ rs) h a = a
+other_count_of_rows (t ∷ ts) [] h a = a
+other_count_of_rows (t ∷ ts) (r ∷ rs) h a = other_count_of_rows ts rs (λ e. h (ap suc e)) a.1

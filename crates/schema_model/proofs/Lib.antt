@@ -4,3 +4,4 @@ pub mod Sound
 pub mod RowidColumns
 pub mod HeldRows
 pub mod ByteLists
+pub mod RisingOrder

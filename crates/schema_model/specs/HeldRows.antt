@@ -1,5 +1,5 @@
 -- The rows of one table after another.
-use Rattle.std.specs.Prelude.{List, [], ◌∷◌, Option, Some}
+use Rattle.std.specs.Prelude.{List, [], ◌∷◌}
 use Rattle.std.specs.List.{AllByRecursion}
 use Rattle.sql_meaning.specs.Values.{Value, Int, IsValue}
 use Rattle.sql_meaning.specs.Conversions.{IsFixed}

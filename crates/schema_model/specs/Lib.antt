@@ -8,3 +8,4 @@ pub mod CreateTexts
 pub mod Databases
 pub mod HeldRows
 pub mod UsableIndexes
+pub mod RisingRowids

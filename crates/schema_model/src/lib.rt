@@ -3,6 +3,7 @@
 
 mod additions;
 mod columns;
+mod conformity;
 mod copies;
 mod indexes;
 mod lookups;
@@ -14,6 +15,7 @@ mod tables;
 
 pub use additions::{add_index, add_table, add_unread};
 pub use columns::{Column, Columns};
+pub use conformity::conforms;
 pub use indexes::{Index, IndexColumn, IndexColumns};
 pub use lookups::{find_column, find_table, name_taken};
 pub use names::Names;
