@@ -1,5 +1,5 @@
 -- The column that is the rowid has affinity INTEGER.
-use Rattle.std.proofs.Common.{◌≡◌, ℕ, zero, suc, Bool, ◌&&◌, cond, nat_lt, count_by, List, [], ◌∷◌, slice_get, Option, None, Some, option_and_then, refl, sym, subst, ap}
+use Rattle.std.proofs.Common.{◌≡◌, ℕ, zero, suc, Bool, ◌&&◌, cond, nat_lt, count_by, List, [], ◌∷◌, slice_get, Option, None, Some, option_and_then, refl, subst}
 use Rattle.sql_meaning.specs.Values.{Integer}
 use Rattle.sql_value.specs.View.{plain_affinity}
 use Rattle.sql_tokens.specs.declared.token.Token.{Token}

@@ -1,5 +1,5 @@
 -- What holds of a dump that was read.
-use Rattle.std.proofs.Common.{◌≡◌, ℕ, suc, ◌≤◌, ◌<◌, ◌^◌, List, [], ◌∷◌, length, refl, sym, subst, ap, ◌∙◌, arith}
+use Rattle.std.proofs.Common.{◌≡◌, ℕ, suc, ◌≤◌, ◌<◌, ◌^◌, List, [], ◌∷◌, length, refl, sym, subst, ap, arith}
 use Rattle.std.specs.List.{AllByRecursion}
 use Rattle.sql_meaning.specs.Values.{IsBytes}
 use Rattle.sql_tokens.specs.Tokens.{tokens_of}
@@ -11,7 +11,6 @@ use Rattle.schema_model.specs.declared.rows.Row.{Row}
 use Rattle.schema_model.proofs.HeldRows.{rows_are_database}
 use Rattle.schema_read.specs.Dumps.{seen_dump, dump_of}
 use Rattle.schema_read.specs.declared.dump.Dump.{Dump}
-use Rattle.schema_read.specs.declared.state.State.{State}
 use Rattle.schema_read.proofs.Kept.{Kept}
 use Rattle.schema_read.proofs.KeptDumps.{dump_kept}
 

@@ -1,7 +1,6 @@
 -- What every statement keeps: rows that their tables may hold, fewer than there were statements.
 use Rattle.std.proofs.Common.{ℕ, suc, ◌≤◌, List, [], ◌∷◌, ◌++◌, length, arith}
 use Rattle.std.specs.List.{AllByRecursion}
-use Rattle.sql_meaning.specs.Rows.{Row}
 use Rattle.schema_model.specs.HeldRows.{AreRows}
 use Rattle.schema_model.specs.UsableIndexes.{IsEmptyUnlessUsable}
 use Rattle.schema_model.specs.declared.indexes.Index.{Index}

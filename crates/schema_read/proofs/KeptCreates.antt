@@ -1,9 +1,9 @@
 -- CREATE keeps what holds of a dump.
-use Rattle.std.proofs.Common.{◌≡◌, ℕ, suc, ◌≤◌, Bool, true, false, List, [], ◌∷◌, ◌++◌, length, slice_get, Option, None, Some, refl, sym, subst, arith}
+use Rattle.std.proofs.Common.{ℕ, suc, ◌≤◌, Bool, List, [], ◌∷◌, ◌++◌, length, slice_get, Option, None, Some, refl, sym, subst, arith}
 use Rattle.std.specs.List.{AllByRecursion}
 use Rattle.sql_meaning.specs.Letters.{folded_bytes}
 use Rattle.sql_tokens.specs.TokenValues.{value_of}
-use Rattle.schema_model.specs.Schemas.{with_table, with_unread, found_table}
+use Rattle.schema_model.specs.Schemas.{with_table, found_table}
 use Rattle.schema_model.specs.HeldRows.{AreRows}
 use Rattle.schema_model.specs.UsableIndexes.{IsEmptyUnlessUsable}
 use Rattle.schema_model.specs.declared.indexes.IndexColumn.{IndexColumn}
@@ -16,8 +16,8 @@ use Rattle.schema_text.specs.Heads.{IndexHead}
 use Rattle.schema_text.specs.TableTexts.{table_of}
 use Rattle.schema_text.specs.declared.table_texts.TableText.{TableText}
 use Rattle.schema_read.specs.Autoindexes.{with_autoindexes}
-use Rattle.schema_read.specs.Creates.{keep_table, create_table, apply_table, apply_unread, usable_columns, index_made, keep_index_of, keep_index, index_found, apply_index}
-use Rattle.schema_read.specs.States.{pass_statement, with_schema, is_refused}
+use Rattle.schema_read.specs.Creates.{keep_table, create_table, apply_table, apply_unread, usable_columns, index_made, keep_index_of, index_found, apply_index}
+use Rattle.schema_read.specs.States.{pass_statement, is_refused}
 use Rattle.schema_read.specs.declared.state.State.{State}
 use Rattle.schema_read.proofs.AliasColumns.{IsAliased, IsAliasedText, table_aliased}
 use Rattle.schema_read.proofs.Cases.{MayBe, chosen}

@@ -1,5 +1,5 @@
 -- What holds of a dump, statement by statement.
-use Rattle.std.proofs.Common.{◌≡◌, ℕ, zero, suc, ◌+◌, fold, List, [], ◌∷◌, length, Option, None, Some, refl, subst, arith}
+use Rattle.std.proofs.Common.{ℕ, suc, ◌+◌, fold, List, [], ◌∷◌, length, Option, None, Some, subst, arith}
 use Rattle.sql_meaning.specs.Values.{IsBytes}
 use Rattle.sql_tokens.specs.Tokens.{tokens_of}
 use Rattle.sql_tokens.specs.declared.token.Token.{Token}
@@ -7,7 +7,7 @@ use Rattle.sql_lex.specs.Statements.{statements_of}
 use Rattle.sql_lex.specs.declared.statement_runs.Span.{Span}
 use Rattle.schema_text.specs.Cursor.{Named}
 use Rattle.schema_text.specs.Heads.{IndexHead, create_table_head, create_unread_head, create_index_head}
-use Rattle.schema_read.specs.Dumps.{empty, insert_or_pass, step_insert, index_or_further, step_index, unread_or_further, step_unread, table_or_further, step, run_of, step_span, dump_of}
+use Rattle.schema_read.specs.Dumps.{empty, insert_or_pass, index_or_further, unread_or_further, table_or_further, step, run_of, step_span, dump_of}
 use Rattle.schema_read.specs.Inserts.{InsertHead, insert_head}
 use Rattle.schema_read.specs.declared.state.State.{State}
 use Rattle.schema_read.proofs.Kept.{Kept, statement_passed}

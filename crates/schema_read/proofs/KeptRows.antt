@@ -1,6 +1,5 @@
 -- INSERT keeps what holds of a dump.
-use Rattle.std.proofs.Common.{◌≡◌, ℕ, zero, suc, ◌≤◌, ℤ, List, [], ◌∷◌, length, set, slice_get, slice_index_or, Option, None, Some, refl, sym, subst, arith}
-use Rattle.std.specs.List.{AllByRecursion}
+use Rattle.std.proofs.Common.{◌≡◌, ℕ, zero, suc, ◌≤◌, ℤ, List, [], ◌∷◌, length, set, slice_get, slice_index_or, Option, None, Some, refl, subst, arith}
 use Rattle.sql_meaning.specs.Letters.{folded_bytes}
 use Rattle.sql_meaning.specs.Values.{Value, Null, Int, IsI64, IsBytes}
 use Rattle.sql_meaning.specs.Rows.{Row}
@@ -9,12 +8,11 @@ use Rattle.sql_tokens.specs.TokenValues.{value_of}
 use Rattle.sql_tokens.specs.declared.token.Token.{Token}
 use Rattle.schema_model.specs.Schemas.{found_table}
 use Rattle.schema_model.specs.HeldRows.{AreHeld, IsHeldRow, AreRowsOf}
-use Rattle.schema_model.specs.declared.columns.Column.{Column}
 use Rattle.schema_model.specs.declared.tables.Table.{Table}
 use Rattle.schema_model.specs.declared.tables.Found.{Found}
 use Rattle.schema_model.specs.declared.tables.Found.TheVariants.{Read, Unread, Missing}
 use Rattle.schema_read.specs.Entries.{row_values}
-use Rattle.schema_read.specs.Inserts.{InsertHead, entries_of, rowid_of, rowid_in, with_rowid, keep_row, keep_row_at, place_row, place_values, insert_into, insert_row, given_of, keep_given, is_figures_name, insert_other, insert_found, apply_insert}
+use Rattle.schema_read.specs.Inserts.{InsertHead, entries_of, rowid_of, rowid_in, with_rowid, keep_row_at, place_row, place_values, insert_into, given_of, keep_given, is_figures_name, insert_other, insert_found, apply_insert}
 use Rattle.schema_read.specs.Rows.{has_rowid, next_rowid, insert_row as inserted_row}
 use Rattle.schema_read.specs.States.{pass_row, pass_statement}
 use Rattle.schema_read.specs.declared.state.Given.{Given}

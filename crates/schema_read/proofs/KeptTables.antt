@@ -1,5 +1,5 @@
 -- Rows of tables, where a table is added or the rows of one change.
-use Rattle.std.proofs.Common.{◌≡◌, ℕ, zero, suc, ◌≤◌, List, [], ◌∷◌, ◌++◌, length, set, slice_get, slice_index_or, Option, None, Some, refl, subst, sym, arith}
+use Rattle.std.proofs.Common.{◌≡◌, ℕ, zero, suc, List, [], ◌∷◌, ◌++◌, set, slice_get, slice_index_or, Some, subst, sym}
 use Rattle.std.specs.List.{AllByRecursion}
 use Rattle.sql_meaning.specs.Rows.{Row}
 use Rattle.schema_model.specs.HeldRows.{AreRowsOf, AreRows}

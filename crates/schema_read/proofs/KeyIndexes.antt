@@ -1,5 +1,5 @@
 -- The indexes that keys make change no table, and are usable.
-use Rattle.std.proofs.Common.{◌≡◌, ℕ, ◌+◌, true, false, List, [], ◌∷◌, ◌++◌, Option, None, Some, refl}
+use Rattle.std.proofs.Common.{◌≡◌, ℕ, ◌+◌, List, [], ◌∷◌, Option, None, Some}
 use Rattle.std.specs.List.{AllByRecursion}
 use Rattle.sql_meaning.specs.Letters.{folded_bytes}
 use Rattle.schema_model.specs.Schemas.{Schema, is_taken}

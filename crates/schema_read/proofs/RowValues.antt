@@ -1,14 +1,13 @@
 -- The values of an INSERT are such as their columns may hold.
-use Rattle.std.proofs.Common.{◌≡◌, ℕ, zero, suc, ℤ, pos, Bool, true, false, cond, codes, List, [], ◌∷◌, ◌++◌, set, slice_get, Option, None, Some, option_map, refl, sym, subst, ap, ◌∙◌, arith, if◌then◌else◌}
-use Rattle.sql_meaning.specs.Values.{Value, Null, Int, Dec, Text, Blob, IsI64, IsBytes, IsValue, Integer}
-use Rattle.sql_meaning.specs.Conversions.{IsFixed, converted}
+use Rattle.std.proofs.Common.{◌≡◌, ℕ, zero, suc, ℤ, Bool, true, false, codes, List, [], ◌∷◌, ◌++◌, set, slice_get, Option, None, Some, option_map, refl, if◌then◌else◌}
+use Rattle.sql_meaning.specs.Values.{Value, Null, Int, IsI64, IsBytes, IsValue, Integer}
+use Rattle.sql_meaning.specs.Conversions.{converted}
 use Rattle.sql_meaning.specs.Numbers.{read_number}
 use Rattle.sql_meaning.proofs.Bounds.{converted_is_value}
 use Rattle.sql_meaning.proofs.Conversions.{converted_is_fixed}
 use Rattle.sql_meaning.proofs.Reading.{sound, read_is_value}
 use Rattle.sql_value.specs.View.{plain_affinity}
 use Rattle.sql_tokens.specs.Terminals.{text_of}
-use Rattle.sql_tokens.specs.TokenValues.{value_of}
 use Rattle.sql_tokens.specs.declared.token.Token.{Token}
 use Rattle.sql_tokens.specs.declared.token.TokenKind.{TokenKind}
 use Rattle.sql_tokens.specs.declared.token.TokenKind.TheVariants as kind
@@ -16,7 +15,7 @@ use Rattle.schema_model.specs.HeldRows.{IsHeld, AreHeld}
 use Rattle.schema_model.specs.declared.columns.Column.{Column}
 use Rattle.schema_text.specs.Lists.{with_first}
 use Rattle.schema_text.specs.Words.{is_word, is_mark}
-use Rattle.schema_read.specs.Entries.{entry_of_kind, token_entry, number_of_kind, number_entry, signed_entry, entry_value, column_value, row_values}
+use Rattle.schema_read.specs.Entries.{entry_of_kind, number_of_kind, number_entry, entry_value, column_value, row_values}
 use Rattle.schema_read.specs.Numbers.{number_text, number_value}
 use Rattle.schema_read.proofs.Cases.{MayBe, chosen}
 use Rattle.schema_read.proofs.TextBytes.{value_bytes}

@@ -1,5 +1,5 @@
 -- The rowid of a row is within 64 bits.
-use Rattle.std.proofs.Common.{◌≡◌, ℕ, zero, suc, ◌-◌, ◌<◌, ◌^◌, ℤ, pos, negsuc, ◌+ℤ◌, Bool, true, false, cond, List, [], ◌∷◌, length, slice_get, Option, None, Some, refl, arith}
+use Rattle.std.proofs.Common.{◌≡◌, ℕ, zero, suc, ◌-◌, ℤ, pos, negsuc, ◌+ℤ◌, Bool, true, false, cond, List, [], ◌∷◌, length, slice_get, Option, None, Some, refl, arith}
 use Rattle.std.proofs.lemmas.Int.{ints}
 use Rattle.std.specs.List.{AllByRecursion}
 use Rattle.std.specs.Ordering.{int_eq}
@@ -9,7 +9,7 @@ use Rattle.schema_model.specs.HeldRows.{AreHeld, IsHeldRow}
 use Rattle.schema_model.specs.declared.columns.Column.{Column}
 use Rattle.schema_model.specs.declared.tables.Table.{Table}
 use Rattle.schema_read.specs.Inserts.{rowid_of, rowid_in, given_rowid}
-use Rattle.schema_read.specs.Rows.{next_rowid, after_last, rowid_after}
+use Rattle.schema_read.specs.Rows.{next_rowid, after_last}
 use Rattle.schema_read.proofs.Cases.{MayBe}
 
 after_rowid : (rowid : ℤ) (b : Bool) → int_eq rowid (pos 9223372036854775807) ≡ b → IsI64 rowid → MayBe IsI64 (cond b None (Some (rowid +ℤ pos 1)))

@@ -1,7 +1,5 @@
 -- The values of tokens are bytes where the text is.
-use Rattle.std.proofs.Common.{◌≡◌, ℕ, zero, suc, ◌+◌, ◌-◌, ◌*◌, ◌<◌, ◌≤◌, ◌==◌, ◌&&◌, nat_le, Bool, true, false, cond, List, [], ◌∷◌, length, take, drop, refl, arith}
-use Rattle.std.specs.List.{AllByRecursion}
-use Rattle.std.specs.Char.{is_ascii_digit}
+use Rattle.std.proofs.Common.{ℕ, zero, suc, ◌-◌, ◌<◌, ◌==◌, ◌&&◌, nat_le, List, [], ◌∷◌, length, take, drop, arith}
 use Rattle.sql_meaning.specs.Values.{IsBytes}
 use Rattle.sql_tokens.specs.Terminals.{text_of}
 use Rattle.sql_tokens.specs.TokenValues.{undoubled, undoubled_behind, front, quoted_value, hex_digit, hex_bytes, hex_bytes_behind, blob_value, value_of_kind, value_of}

@@ -1,4 +1,4 @@
-use Rattle.std.proofs.Common.{◌≡◌, ◌∙◌}
+use Rattle.std.proofs.Common.{◌∙◌}
 use Rattle.schema_model.proofs.ByteLists.{fitting_bytes}
 use Rattle.schema_read.proofs.DumpFacts.{dump_conforms, dump_is_short, dump_unusable}
 use Rattle.schema_read.proofs.dump.read_dump.Goals as goal
