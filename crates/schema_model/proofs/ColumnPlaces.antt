@@ -1,5 +1,5 @@
 -- A column that comes last is found under its name, where no earlier one has that name.
-use Rattle.std.proofs.Common.{◌≡◌, ℕ, ◌+◌, ◌≤◌, ◌<◌, ◌==◌, nat_lt, eqb, Bool, true, false, cond, List, [], ◌∷◌, ◌++◌, length, position, Option, None, Some, is_some, refl, ap, sym, ◌∙◌, arith, not, subst, true≢false}
+use Rattle.std.proofs.Common.{◌≡◌, ℕ, ◌+◌, ◌≤◌, nat_lt, eqb, Bool, true, false, cond, List, [], ◌∷◌, ◌++◌, length, position, Option, None, Some, is_some, refl, ap, sym, ◌∙◌, arith, not, subst}
 use Rattle.std.specs.List.{position_or_len}
 use Rattle.std.specs.Map.{lookup}
 use Rattle.std.specs.Cmp.Lexicographic.{same_text}

@@ -1,5 +1,5 @@
 -- Names as the keys of a set.
-use Rattle.std.proofs.Common.{not, ◌≡◌, ℕ, ◌+◌, ◌||◌, Bool, true, false, List, [], ◌∷◌, ◌++◌, map, length, position, ap, sym, ◌∙◌, refl, nat_lt, cond, Option, Some, None, if◌then◌else◌}
+use Rattle.std.proofs.Common.{not, ◌≡◌, ℕ, ◌+◌, ◌||◌, Bool, false, List, [], ◌∷◌, ◌++◌, map, position, ap, sym, ◌∙◌, refl, cond, if◌then◌else◌}
 use Rattle.std.specs.List.{list_any, position_or_len, AllZip, each_same}
 use Rattle.std.specs.Global.{Vec}
 use Rattle.std.specs.Vec.{vec_len}

@@ -1,5 +1,5 @@
 -- A column that is the rowid keeps its name.
-use Rattle.std.proofs.Common.{◌≡◌, ◌≢◌, ℕ, zero, suc, ◌+◌, ◌≤◌, ◌<◌, not, cond, nat_lt, List, [], ◌∷◌, length, set, get_or, position, Some, None, refl, ap, sym, ◌∙◌, arith}
+use Rattle.std.proofs.Common.{◌≡◌, ℕ, zero, suc, ◌+◌, ◌≤◌, ◌<◌, not, cond, List, [], ◌∷◌, length, set, get_or, position, refl, ap, arith}
 use Rattle.std.specs.List.{position_or_len}
 use Rattle.schema_model.specs.Columns.{has_column_name, rowid_column, as_rowid}
 use Rattle.schema_model.specs.declared.columns.Column.{Column}

@@ -5,3 +5,7 @@ pub mod Schemas
 pub mod SchemaNames
 pub mod PlainSchemas
 pub mod CreateTexts
+pub mod Databases
+pub mod HeldRows
+pub mod UsableIndexes
+pub mod RisingRowids

@@ -3,6 +3,7 @@
 
 mod additions;
 mod columns;
+mod conformity;
 mod copies;
 mod indexes;
 mod lookups;
@@ -14,6 +15,7 @@ mod tables;
 
 pub use additions::{add_index, add_table, add_unread};
 pub use columns::{Column, Columns};
+pub use conformity::conforms;
 pub use indexes::{Index, IndexColumn, IndexColumns};
 pub use lookups::{find_column, find_table, name_taken};
 pub use names::Names;
@@ -21,3 +23,6 @@ pub use print::{append_columns, append_name, print_create};
 pub use rows::{Row, RowList, Tables};
 pub use schema::{Schema, schema_is_sound};
 pub use tables::{Found, Table};
+
+#[cfg(test)]
+mod tests;

@@ -1,3 +1,16 @@
 pub mod RowLists
 pub mod ShapeLists
 pub mod KeyShapes
+pub mod Cases
+pub mod RisingRows
+pub mod TextBytes
+pub mod RowValues
+pub mod AliasColumns
+pub mod KeyIndexes
+pub mod Rowids
+pub mod KeptTables
+pub mod Kept
+pub mod KeptRows
+pub mod KeptCreates
+pub mod KeptDumps
+pub mod DumpFacts

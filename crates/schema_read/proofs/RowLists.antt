@@ -1,5 +1,5 @@
 -- Rows as the entries of an ordered map.
-use Rattle.std.proofs.Common.{◌≡◌, ◌≢◌, ℕ, zero, suc, ◌+◌, ◌<◌, ℤ, Bool, true, false, cond, ◌||◌, List, [], ◌∷◌, ◌++◌, length, map, drop, get_or, set, Option, None, Some, is_some, option_map, refl, ap, sym, ◌∙◌, arith, Bor}
+use Rattle.std.proofs.Common.{◌≡◌, ◌≢◌, ℕ, zero, suc, ℤ, Bool, true, false, cond, ◌||◌, List, [], ◌∷◌, length, map, set, Option, None, Some, is_some, refl, ap, Bor}
 use Rattle.std.specs.Ordering.{int_cmp, is_eq, match_ordering}
 use Rattle.std.specs.declared.cmp.Ordering.{Ordering}
 use Rattle.std.specs.declared.cmp.Ordering.TheVariants.{Less, Equal, Greater}
@@ -7,7 +7,6 @@ use Rattle.std.specs.BTreeMap.{insert_entry}
 use Rattle.std.specs.Map.{lookup}
 use Rattle.std.specs.Global.{Vec}
 use Rattle.sql_meaning.specs.Rows.{Row}
-use Rattle.sql_meaning.specs.Values as plain
 use Rattle.sql_value.specs.View.{plain_value}
 use Rattle.sql_value.specs.declared.values.Value.{Value}
 use Rattle.sql_tokens.specs.declared.token.Token.{Token}

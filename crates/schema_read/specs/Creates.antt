@@ -3,7 +3,7 @@ use Rattle.std.specs.Prelude.{ℕ, Bool, true, false, cond, List, [], ◌∷◌,
 use Rattle.sql_meaning.specs.Letters.{folded_bytes}
 use Rattle.sql_tokens.specs.TokenValues.{value_of}
 use Rattle.sql_tokens.specs.declared.token.Token.{Token}
-use Rattle.schema_model.specs.Schemas.{Schema, with_table, with_unread, with_index, found_table}
+use Rattle.schema_model.specs.Schemas.{with_table, with_unread, with_index, found_table}
 use Rattle.schema_model.specs.declared.columns.Column.{Column}
 use Rattle.schema_model.specs.declared.tables.Table.{Table}
 use Rattle.schema_model.specs.declared.tables.Found.{Found}

@@ -1,7 +1,7 @@
 -- INSERT statements.
-use Rattle.std.specs.Prelude.{ℕ, ℤ, Bool, true, false, cond, codes, List, [], ◌∷◌, ◌++◌, slice_get, slice_set, slice_index_or, Option, None, Some, option_and_then, option_map}
+use Rattle.std.specs.Prelude.{ℕ, ℤ, Bool, cond, codes, List, [], ◌∷◌, ◌++◌, slice_get, slice_set, slice_index_or, Option, None, Some, option_and_then}
 use Rattle.sql_meaning.specs.Letters.{folded_bytes}
-use Rattle.sql_meaning.specs.Values.{Value, Null, Int, Dec, Text, Blob}
+use Rattle.sql_meaning.specs.Values.{Value, Null, Int, Text}
 use Rattle.sql_value.specs.Keywords.{same_word}
 use Rattle.sql_tokens.specs.TokenValues.{value_of}
 use Rattle.sql_tokens.specs.declared.token.Token.{Token}

@@ -1,8 +1,8 @@
 -- What is read so far.
-use Rattle.std.specs.Prelude.{ℕ, ◌+◌, Bool, ◌||◌, codes, nat_eq, List, [], ◌∷◌, ◌++◌}
+use Rattle.std.specs.Prelude.{ℕ, ◌+◌, Bool, ◌||◌, codes, nat_eq, List, []}
 use Rattle.std.specs.List.{starts_with}
 use Rattle.sql_meaning.specs.Letters.{folded_bytes}
-use Rattle.schema_model.specs.Schemas.{Schema, is_taken, empty as no_schema, with_unread}
+use Rattle.schema_model.specs.Schemas.{Schema, is_taken, empty as no_schema}
 use Rattle.schema_read.specs.declared.state.State.{State}
 
 abbrev pub empty : State

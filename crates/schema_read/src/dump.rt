@@ -1,10 +1,16 @@
 //! A dump, statement by statement.
 ghost use Rattle.std.specs.Prelude.{◌≡◌, ◌<◌, ◌≤◌, ◌^◌, length, fold, IfOk, IfErr, OnOk};
+ghost use Rattle.std.specs.List.{AllByRecursion};
+ghost use Rattle.sql_tokens.specs.Tokens.{tokens_of};
+ghost use Rattle.sql_lex.specs.Statements.{statements_of};
+ghost use Rattle.schema_model.specs.Databases.{IsDatabase};
+ghost use Rattle.schema_model.specs.Schemas.{size};
+ghost use Rattle.schema_model.specs.UsableIndexes.{IsEmptyUnlessUsable};
 ghost use Rattle.schema_read.specs.Dumps as meant;
 
 use crate::creates::{apply_index, apply_table, apply_unread};
 use crate::inserts::{apply_insert, insert_head};
-use crate::state::{GivenList, State, pass_statement};
+use crate::state::{GivenList, State, has_room, pass_statement};
 use schema_model::{Schema, Tables};
 use schema_text::{create_index_head, create_table_head, create_unread_head};
 use sql_lex::{Span, Token, lex, run_tokens, statements};
@@ -104,15 +110,21 @@ fn read_statements(
     Ok(state)
 }
 
+/// All statements of a text. The guards never hold: a token has a byte at least, and a statement a
+/// token.
 fn read_text(alloc: Global, text: &[u8]) -> Result<State, Memory>
     requires { length text.now < 2 ^ 32 }
-    ensures { IfOk result (λ state. state ≡ meant.dump_of text.now) }
+    ensures same { IfOk result (λ state. state ≡ meant.dump_of text.now) }
+    ensures few { IfOk result (λ state. length (statements_of text.now (tokens_of text.now)) < 2 ^ 32) }
 {
     let tokens = lex(alloc, text)?;
     if tokens.as_slice().len() >= 1 << 32 {
         return Err(Memory);
     }
     let spans = statements(alloc, text, &tokens)?;
+    if spans.as_slice().len() >= 1 << 32 {
+        return Err(Memory);
+    }
     read_statements(alloc, text, tokens.as_slice(), spans.as_slice())
 }
 
@@ -136,16 +148,27 @@ fn table_total(schema: &Schema) -> u64
 
 /// Reads a dump, in one pass over its statements.
 ///
-/// What is read and what is passed over is told in docs/dumps.md.
+/// Its rows are a database of its schema: those of a table stand by rising rowid, each value is one
+/// that its column's affinity leaves as it is, and the column that is the rowid holds it
+/// (<https://sqlite.org/datatype3.html>, section 3; <https://sqlite.org/lang_createtable.html>,
+/// "ROWIDs and the INTEGER PRIMARY KEY"). What is read and what is passed over is told in
+/// docs/dumps.md. `Memory` comes too where tables, unread tables and indexes would be 1,000,000,000.
 pub fn read_dump(alloc: Global, text: &[u8]) -> Result<Dump, ReadDumpFault>
     requires { length text.now < 2 ^ 32 }
     ensures same { IfOk result (λ dump. meant.seen_dump dump ≡ meant.dump_of text.now) }
+    ensures conforms { IfOk result (λ dump. IsDatabase dump.schema dump.rows) }
+    ensures rows { IfOk result (λ dump. AllByRecursion (λ rows. length rows < 2 ^ 32) dump.rows) }
+    ensures unusable { IfOk result (λ dump. AllByRecursion IsEmptyUnlessUsable dump.schema.indexes) }
     ensures few { IfOk result (λ dump. meant.table_total dump.schema ≤ 1000) }
+    ensures room { IfOk result (λ dump. size dump.schema < 10 ^ 9) }
     ensures fault { IfErr result (meant.IsFaultOf (meant.dump_of text.now)) }
 {
     let state = read_text(alloc, text)?;
     if table_total(&state.schema) > 1000 {
         return Err(ReadDumpFault::TooManyTables);
+    }
+    if !has_room(&state.schema) {
+        return Err(ReadDumpFault::Memory);
     }
     let dump = finish(alloc, state)?;
     Ok(dump)

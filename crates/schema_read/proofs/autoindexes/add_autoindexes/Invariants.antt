@@ -1,5 +1,5 @@
 use Rattle.std.proofs.Common.{◌≡◌, ◌<◌, length, drop, []}
-use Rattle.schema_read.specs.Autoindexes.{Autoindexes, add_keys}
+use Rattle.schema_read.specs.Autoindexes.{add_keys}
 use Rattle.schema_read.proofs.autoindexes.add_autoindexes.Given as goal
 
 abbrev pub invariant-loop-key : goal.invariant-loop-key

@@ -1,4 +1,4 @@
-use Rattle.std.proofs.Common.{◌≡◌, sym}
+use Rattle.std.proofs.Common.{sym}
 use Rattle.schema_read.proofs.RowLists.{other_count}
 use Rattle.schema_read.proofs.entries.row_values.Goals as goal
 

@@ -1,4 +1,4 @@
-use Rattle.std.proofs.Common.{◌≡◌, ℤ, ap, ◌∙◌, map, set, w64, Option, ℕ, sym, Some}
+use Rattle.std.proofs.Common.{ℤ, ap, ◌∙◌, map, set, w64, Option, ℕ, sym}
 use Rattle.std.proofs.lemmas.Int.{to_z-of_z}
 use Rattle.sql_meaning.specs.Values as plain
 use Rattle.sql_value.specs.View.{plain_value}

@@ -1,4 +1,4 @@
-use Rattle.std.proofs.Common.{◌≡◌, ◌<◌, ◌≤◌, ap, sym, ◌∙◌, List, set, length, subst}
+use Rattle.std.proofs.Common.{◌<◌, ◌≤◌, ap, sym, ◌∙◌, List, set, length, subst}
 use Rattle.schema_model.specs.Columns.{rowid_column, as_rowid}
 use Rattle.schema_model.specs.declared.columns.Column.{Column}
 use Rattle.schema_model.proofs.RowidColumns.{set_rowid, past_end}

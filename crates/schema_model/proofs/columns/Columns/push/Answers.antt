@@ -1,4 +1,4 @@
-use Rattle.std.proofs.Common.{◌≡◌, ap, sym, ◌∙◌, ◌++◌, ◌∷◌, [], map, refl, List, ℕ, position, length, None, Some, is_some, false, true}
+use Rattle.std.proofs.Common.{◌≡◌, ap, sym, ◌∙◌, ◌++◌, ◌∷◌, [], List, ℕ, position, length}
 use Rattle.sql_meaning.specs.Letters.{folded_bytes}
 use Rattle.schema_model.proofs.ColumnPlaces.{stands_earlier, stands_last, found_under, finds, is_none}
 use Rattle.std.specs.Global.{Vec}

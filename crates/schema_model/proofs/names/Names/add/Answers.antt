@@ -1,4 +1,4 @@
-use Rattle.std.proofs.Common.{◌≡◌, ap, sym, ◌∙◌, ◌++◌, ◌∷◌, [], map, refl}
+use Rattle.std.proofs.Common.{ap, ◌∙◌, map, refl}
 use Rattle.schema_model.proofs.NameKeys.{added}
 use Rattle.schema_model.proofs.names.Names.add.Goals as goal
 

@@ -1,4 +1,4 @@
-use Rattle.std.proofs.Common.{◌≡◌, position, ap, sym, ◌∙◌}
+use Rattle.std.proofs.Common.{position, ap, sym, ◌∙◌}
 use Rattle.schema_model.specs.Names.{is_name}
 use Rattle.schema_model.proofs.NameKeys.{position-map}
 use Rattle.schema_model.proofs.names.Names.find.Goals as goal

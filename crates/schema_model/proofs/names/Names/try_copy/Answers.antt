@@ -1,4 +1,4 @@
-use Rattle.std.proofs.Common.{◌≡◌, ap, ◌∙◌, map}
+use Rattle.std.proofs.Common.{◌∙◌}
 use Rattle.schema_model.proofs.NameKeys.{clones}
 use Rattle.schema_model.proofs.names.Names.try_copy.Goals as goal
 

@@ -1,4 +1,4 @@
-use Rattle.std.proofs.Common.{◌≡◌, ap, sym, ◌∙◌, nat_eq}
+use Rattle.std.proofs.Common.{ap, sym, ◌∙◌, nat_eq}
 use Rattle.std.specs.Cmp.Lexicographic.{pointwise}
 use Rattle.schema_model.proofs.NameKeys.{list_any-map}
 use Rattle.schema_read.specs.Autoindexes.{has_shape}

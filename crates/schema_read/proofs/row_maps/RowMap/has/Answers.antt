@@ -1,4 +1,4 @@
-use Rattle.std.proofs.Common.{◌≡◌, ℤ, ap, ◌∙◌, List, map, w64}
+use Rattle.std.proofs.Common.{ℤ, ap, ◌∙◌, map, w64}
 use Rattle.std.proofs.lemmas.Int.{to_z-of_z}
 use Rattle.schema_read.specs.Rows.{has_rowid, row_of_entry}
 use Rattle.schema_read.proofs.RowLists.{found}

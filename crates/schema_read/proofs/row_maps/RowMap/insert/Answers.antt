@@ -1,4 +1,4 @@
-use Rattle.std.proofs.Common.{◌≡◌, ℤ, ap, ◌∙◌, map, w64}
+use Rattle.std.proofs.Common.{ℤ, ap, ◌∙◌, map, w64}
 use Rattle.std.proofs.lemmas.Int.{to_z-of_z}
 use Rattle.sql_value.specs.View.{plain_value}
 use Rattle.schema_read.specs.Rows.{row_of_entry, insert_row}
