@@ -1,6 +1,6 @@
 //! Dumps, and what is read of them.
 use super::*;
-use schema_model::{Column, Index, Row, Schema, Table};
+use schema_model::{Column, Index, Row, Schema, Table, conforms};
 use sql_value::{Affinity, Bytes, Collation, Memory, Value};
 use std::alloc::Global;
 use std::test::Fail;
@@ -258,7 +258,49 @@ const DUMPS: &[(&[u8], &[u8])] = &[
         b"CREATE TABLE t(); CREATE TABLE u(a,,b); CREATE TABLE v(CHECK(1)); CREATE TABLE sqlite_autoindex_w_1(a); CREATE TABLE w(a UNIQUE, b UNIQUE);",
         b"T v();T w(a:BB,b:BB);U 2;I sqlite_autoindex_w_1 1(0B) unique;I sqlite_autoindex_w_2 1(1B) unique;P 1 0",
     ),
+    (
+        b"CREATE TABLE t(id INTEGER PRIMARY KEY UNIQUE, a); CREATE TABLE u(a INT PRIMARY KEY, b, PRIMARY KEY(b)); CREATE TABLE v(a INT PRIMARY KEY);",
+        b"T t(id:IB,a:BB)@0;T v(a:IB);U 1;I sqlite_autoindex_v_1 1(0B) unique;P 0 0",
+    ),
+    (
+        b"CREATE TABLE t(a INTEGER GENERATED ALWAYS AS (1)); CREATE TABLE u(a DEFAULT (CAST(1 AS INT))); CREATE INDEX n ON u(a COLLATE french); CREATE INDEX main.o ON u(a ASC); CREATE INDEX sqlite_i ON u(a);",
+        b"T u(a:BB);U 1;I n 0() unusable;I o 0(0B);P 1 0",
+    ),
 ];
+
+/// What the shell of SQLite 3.40.1 writes for two tables, an index, a view and a trigger.
+const SHELL_DUMP: &[u8] = b"PRAGMA foreign_keys=OFF;
+BEGIN TRANSACTION;
+CREATE TABLE note(id INTEGER PRIMARY KEY, body TEXT, \"a \"\"b\"\"\" BLOB, worth REAL, kept);
+INSERT INTO note VALUES(-3,replace('two\\nlines','\\n',char(10)),NULL,-2.25,'7');
+INSERT INTO note VALUES(1,'it''s \"so\"',X'00ff41',1.5,NULL);
+INSERT INTO note VALUES(7,'',X'',12.0,-9223372036854775808);
+INSERT INTO note VALUES(8,NULL,NULL,-0.5,3);
+INSERT INTO note VALUES(9,'end;--',NULL,0.12345670000000000254,2.5);
+CREATE TABLE log(note INT REFERENCES note(id), at TEXT COLLATE NOCASE, UNIQUE(at, note));
+INSERT INTO log VALUES(1,'Mon');
+INSERT INTO log VALUES(7,NULL);
+CREATE INDEX log_at ON log(at DESC);
+CREATE VIEW long AS SELECT body FROM note WHERE worth > 1;
+CREATE TRIGGER told AFTER INSERT ON log BEGIN UPDATE note SET worth = 0; DELETE FROM log; END;
+COMMIT;
+";
+
+/// The rows -3, of a call of `replace`, and 9, of 20 digits behind the point, are passed over.
+const SHELL_SUMMARY: &[u8] =
+    b"T note(id:IB,body:TB,a \"b\":BB,worth:RB,kept:BB)@0;R 1=i1,tit's \"so\",b\0\xffA,d15000,N;R 7=i7,t,b,d120000,i-9223372036854775808;R 8=i8,N,N,d-5000,i3;T log(note:IB,at:TN);R 1=i1,tMon;R 2=i7,N;U 1;I sqlite_autoindex_log_1 1(1N,0B) unique;I log_at 1(1N-);P 4 2";
+
+#[test]
+fn a_shell_dump_is_read(rt: HostRuntime) -> Result<(), Fail> {
+    let Ok(dump) = read_dump(rt.alloc(), SHELL_DUMP) else {
+        assert!(rt; false);
+        return Ok(());
+    };
+    assert!(rt; conforms(&dump.schema, &dump.rows));
+    let found = summary_of(rt.alloc(), &dump)?;
+    assert_eq!(rt; found.as_slice(), SHELL_SUMMARY);
+    Ok(())
+}
 
 #[test]
 fn dumps_are_read(rt: HostRuntime) -> Result<(), Fail> {
