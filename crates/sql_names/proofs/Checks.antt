@@ -1,5 +1,6 @@
 -- Checks after checks.
-use Rattle.std.proofs.Common.{◌≡◌, ◌∙◌, Option, None, Some, Result, Ok, Err, List, [], ◌∷◌, ◌++◌, refl}
+use Rattle.std.proofs.Common.{◌≡◌, ◌∙◌, Option, None, Some, Result, Ok, Err}
+use Rattle.std.proofs.Common.{List, [], ◌∷◌, ◌++◌, refl}
 use Rattle.sql_names.specs.Faults.{first_failing, Answers}
 use Rattle.sql_names.specs.declared.faults.BindFault.{BindFault}
 use Rattle.sql_names.specs.declared.faults.BindFault.TheVariants.{Memory}

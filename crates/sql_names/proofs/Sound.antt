@@ -20,7 +20,8 @@ use Rattle.schema_model.specs.Columns.{has_column_name}
 use Rattle.schema_model.specs.declared.tables.Table.{Table}
 use Rattle.sql_bound.specs.Fits.{IsSound, NamesExist, AllNamesExist, width}
 use Rattle.sql_names.specs.Scopes.{Scope, IsScope, table_of, table_at}
-use Rattle.sql_names.specs.Names.{Meaning, Means, Ambiguous, Unknown, is_alias, column_expr, column_in}
+use Rattle.sql_names.specs.Names.{Meaning, Means, Ambiguous, Unknown}
+use Rattle.sql_names.specs.Names.{is_alias, column_expr, column_in}
 use Rattle.sql_names.specs.Names.{rowid_in, named_at, item_named, columns_named, among}
 use Rattle.sql_names.specs.Names.{constant, only_rowid, without_column, if_known}
 use Rattle.sql_names.specs.Names.{meant_expr, name_expr, is_rowid_name}

@@ -6,7 +6,8 @@ use Rattle.sql_tree.specs.Trees as tree
 use Rattle.sql_tree.specs.declared.expression.Op.{Op}
 use Rattle.sql_tree.specs.declared.expression.Expr.{Expr}
 use Rattle.sql_tree.specs.declared.expression.Expr.TheVariants as variant
-use Rattle.sql_tree.specs.declared.expression.Expr.TheViews.{rolls-Cmp, rolls-Between, rolls-Collate}
+use Rattle.sql_tree.specs.declared.expression.Expr.TheViews.{rolls-Cmp, rolls-Between}
+use Rattle.sql_tree.specs.declared.expression.Expr.TheViews.{rolls-Collate}
 use Rattle.sql_tree.specs.declared.expression.Expr.TheFolds.{fold-roll-Expr}
 use Rattle.sql_tree.specs.declared.expression.Expr.TheOpen as node
 

@@ -99,8 +99,8 @@ fn push<'a>(members: &mut Vec<BExpr<'a>>, member: BExpr<'a>) -> Result<(), Memor
 /// The expression with its names bound to the items of the scope and their columns, in the arena.
 ///
 /// Its names and collations are checked from left to right, an operand before its COLLATE, and the
-/// first one that fails is the fault: as `bind_name` and `bind_collation` say. `Memory` says nothing
-/// of the others.
+/// first one that fails is the fault: as `bind_name` and `bind_collation` say. `Memory` says
+/// nothing of the others.
 #[cycle(bind_expr)]
 #[tactic(auto, using(crate::proofs::Lists::source_lists))]
 pub fn bind_expr<'a>(

@@ -128,7 +128,8 @@ fn own_collation(scope: &Scope, expr: &BExpr) -> Option<Collation>
 }
 
 /// The collation of a comparison: an explicit one, that of the left side first; else a column's
-/// own, that of the left side first; else BINARY (<https://sqlite.org/datatype3.html>, section 7.1).
+/// own, that of the left side first; else BINARY (<https://sqlite.org/datatype3.html>, section
+/// 7.1).
 pub(crate) fn compared_under(scope: &Scope, left: &BExpr, right: &BExpr) -> Collation
     ensures { plain_collation result
         ≡ meant.compared_under (plain_schema scope.now.schema) scope.now.items (expr_of left.now)

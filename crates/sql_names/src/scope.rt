@@ -1,5 +1,6 @@
 //! The tables of FROM, found by the names that stand for them.
-ghost use Rattle.std.specs.Prelude.{◌≡◌, ◌<◌, ◌≤◌, length, map, Some, false, OnOk, OnErr, IfOk, IfSome};
+ghost use Rattle.std.specs.Prelude.{◌≡◌, ◌<◌, ◌≤◌, length, map, Some, false, OnOk, OnErr};
+ghost use Rattle.std.specs.Prelude.{IfOk, IfSome};
 ghost use Rattle.sql_meaning.specs.Letters.{folded_bytes};
 ghost use Rattle.schema_model.specs.Names.{has_name};
 ghost use Rattle.sql_bound.specs.Statements.{item_of};
@@ -106,7 +107,8 @@ impl<'a> Scope<'a> {
     /// The number of the item that a name stands for, by one hash.
     pub fn item_named(&self, alloc: Global, name: &[u8]) -> Result<Option<u32>, Memory>
         ensures found { IfOk result (λ item. item ≡ item_named self.now name.now) }
-        ensures within { IfOk result (λ item. IfSome item (λ number. number < length self.now.items)) }
+        ensures within { IfOk result (λ item.
+            IfSome item (λ number. number < length self.now.items)) }
     {
         let lower = fold(alloc, name)?;
         match self.names.find(lower.as_slice()) {
