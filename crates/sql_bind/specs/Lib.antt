@@ -1,0 +1,7 @@
+pub mod Clauses
+pub mod Sources
+pub mod Results
+pub mod Conditions
+pub mod Keys
+pub mod Needs
+pub mod Binding
