@@ -1,5 +1,6 @@
 pub mod Clauses
 pub mod Sources
+pub mod Views
 pub mod Results
 pub mod Conditions
 pub mod Keys

@@ -1,6 +1,6 @@
 -- FROM: its checks, and what names are looked up in (lang_select, "Determination of input data").
 use Rattle.std.specs.Prelude.{ℕ, nat_lt, if◌then◌else◌, Option, Some, None, unwrap_or, map}
-use Rattle.std.specs.Prelude.{List, [], ◌∷◌, ◌++◌, length, false}
+use Rattle.std.specs.Prelude.{List, [], ◌∷◌, ◌++◌, length, false, flat_map}
 use Rattle.sql_meaning.specs.Letters.{folded_bytes}
 use Rattle.sql_meaning.specs.Items.{Item}
 use Rattle.sql_tree.specs.Statements.{SourceTree}
@@ -21,8 +21,8 @@ table_fault name (Read number) = None
 table_fault name Unread = Some (fault.UnreadTable name)
 table_fault name Missing = Some (fault.NoSuchTable name)
 
-abbrev pub table_check : Schema → SourceTree → Option BindFault
-table_check schema source = table_fault source.table (found schema source)
+abbrev pub table_checks : Schema → SourceTree → List (Option BindFault)
+table_checks schema source = table_fault source.table (found schema source) ∷ []
 
 -- the name that the other clauses know it by: its alias, else its table's
 abbrev pub known_as : SourceTree → List ℕ
@@ -43,7 +43,7 @@ count_check sources = if nat_lt 64 (length sources) then Some fault.TooManyTable
 
 abbrev pub from_checks : Schema → List SourceTree → List (Option BindFault)
 from_checks schema sources =
-    count_check sources ∷ (map (table_check schema) sources ++ name_checks [] (map known_as sources))
+    count_check sources ∷ (flat_map (table_checks schema) sources ++ name_checks [] (map known_as sources))
 
 -- the number of a table, and 0 where it isn't read
 abbrev pub table_number : Found → ℕ
@@ -51,16 +51,23 @@ table_number (Read number) = number
 table_number Unread = 0
 table_number Missing = 0
 
-abbrev pub item_of_source : Schema → SourceTree → Item
-item_of_source schema source = record {
-  table = table_number (found schema source);
-  cross = source.cross;
-  left = false;
+-- an item of FROM, and the name that the other clauses know it by
+pub record NamedItem : Type 0 where
+  pub name : List ℕ
+  pub item : Item
+
+abbrev pub named_item : Schema → SourceTree → NamedItem
+named_item schema source = record {
+  name = known_as source;
+  item = record { table = table_number (found schema source); cross = source.cross; left = false };
+}
+
+abbrev pub scope_from : Schema → List NamedItem → Scope
+scope_from schema list = record {
+  schema = schema;
+  names = map (λ n. folded_bytes n.name) list;
+  items = map (λ n. n.item) list;
 }
 
 abbrev pub scope_of : Schema → List SourceTree → Scope
-scope_of schema sources = record {
-  schema = schema;
-  names = map folded_bytes (map known_as sources);
-  items = map (item_of_source schema) sources;
-}
+scope_of schema sources = scope_from schema (map (named_item schema) sources)

@@ -3,5 +3,7 @@
 
 mod binding;
 mod clauses;
+mod placing;
+mod sources;
 
 pub use binding::bind;
