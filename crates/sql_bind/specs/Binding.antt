@@ -1,6 +1,6 @@
 -- What a statement means in a schema, and the checks that it has to pass, in their order. Each is
 -- stated apart: the meaning is total, and stands where no check fails.
-use Rattle.std.specs.Prelude.{ℕ, Option, option_to_list, List, [], ◌∷◌, ◌++◌, map}
+use Rattle.std.specs.Prelude.{ℕ, Option, List, [], ◌∷◌, ◌++◌, map, flat_map}
 use Rattle.sql_meaning.specs.Statements.{Bound, Conjunct}
 use Rattle.sql_tree.specs.Statements.{StatementTree}
 use Rattle.schema_model.specs.Schemas.{Schema}
@@ -10,9 +10,9 @@ use Rattle.sql_names.specs.Scopes.{Scope}
 use Rattle.sql_bind.specs.Clauses.{sources_of, entries_of, sets_of, filter_of, keys_of}
 use Rattle.sql_bind.specs.Clauses.{limit_of, offset_of, changes_rows}
 use Rattle.sql_bind.specs.Sources.{from_checks, scope_of}
-use Rattle.sql_bind.specs.Results.{ResultColumn, result_checks, result_columns}
-use Rattle.sql_bind.specs.Conditions.{on_conditions, conditions, condition_checks, conjuncts_in}
-use Rattle.sql_bind.specs.Conditions.{set_checks, count_of_terms_check}
+use Rattle.sql_bind.specs.Results.{ResultColumn, entry_checks, result_columns}
+use Rattle.sql_bind.specs.Conditions.{conditions, on_checks, condition_checks, conjuncts_in, set_checks}
+use Rattle.sql_bind.specs.Conditions.{count_of_terms_check}
 use Rattle.sql_bind.specs.Keys.{key_checks, sort_key}
 use Rattle.sql_bind.specs.Needs.{needs_in}
 
@@ -25,11 +25,11 @@ terms_in scope tree = conjuncts_in scope (conditions (sources_of tree) (filter_o
 -- behind FROM: the result list, ON, SET, WHERE, ORDER BY, and last the number of terms
 abbrev pub later_checks : Scope → StatementTree → List (Option BindFault)
 later_checks scope tree =
-    result_checks scope (entries_of tree)
-    ++ (condition_checks scope (on_conditions (sources_of tree))
-    ++ (set_checks scope (sets_of tree)
-    ++ (condition_checks scope (option_to_list (filter_of tree))
-    ++ (key_checks scope (results_in scope tree) (keys_of tree)
+    flat_map (entry_checks scope) (entries_of tree)
+    ++ (flat_map (on_checks scope) (sources_of tree)
+    ++ (flat_map (set_checks scope) (sets_of tree)
+    ++ (condition_checks scope (filter_of tree)
+    ++ (flat_map (key_checks scope (results_in scope tree)) (keys_of tree)
     ++ count_of_terms_check (terms_in scope tree) ∷ []))))
 
 abbrev pub checks : Schema → StatementTree → List (Option BindFault)

@@ -1,7 +1,8 @@
 -- The conditions of a statement, and what SET names.
 use Rattle.std.specs.Prelude.{ℕ, nat_lt, if◌then◌else◌, Option, Some, None, option_to_list}
 use Rattle.std.specs.Prelude.{List, [], ◌∷◌, ◌++◌, map, length, flat_map, filter_map}
-use Rattle.sql_meaning.specs.Expressions.{BExpr}
+use Rattle.sql_meaning.specs.Letters.{folded_bytes}
+use Rattle.sql_meaning.specs.Expressions.{BExpr, flat}
 use Rattle.sql_meaning.specs.Statements.{Conjunct}
 use Rattle.sql_meaning.specs.Conjuncts.{conjuncts_of}
 use Rattle.sql_tree.specs.Trees.{Tree}
@@ -20,16 +21,28 @@ on_conditions sources = filter_map (λ source. source.on) sources
 abbrev pub conditions : List SourceTree → Option Tree → List Tree
 conditions sources filter = on_conditions sources ++ option_to_list filter
 
-abbrev pub condition_checks : Scope → List Tree → List (Option BindFault)
-condition_checks scope trees = flat_map (expr_checks scope) trees
+abbrev pub condition_checks : Scope → Option Tree → List (Option BindFault)
+condition_checks scope None = []
+condition_checks scope (Some tree) = expr_checks scope tree
+
+abbrev pub on_checks : Scope → SourceTree → List (Option BindFault)
+on_checks scope source = condition_checks scope source.on
 
 -- a condition that no LEFT JOIN owns
-abbrev pub common : Scope → Tree → Conjunct
-common scope tree = record { expr = bound scope tree; owner = None }
+abbrev pub unowned : BExpr → Conjunct
+unowned e = record { expr = e; owner = None }
 
 -- numbered from 0: AND lists flattened, a BETWEEN as its two comparisons
 abbrev pub conjuncts_in : Scope → List Tree → List Conjunct
-conjuncts_in scope trees = conjuncts_of (map (common scope) trees)
+conjuncts_in scope trees = conjuncts_of (map (λ tree. unowned (bound scope tree)) trees)
+
+-- the conjuncts of one condition
+abbrev pub terms_of : Scope → Option Tree → List Conjunct
+terms_of scope None = []
+terms_of scope (Some tree) = map unowned (flat (bound scope tree))
+
+abbrev pub on_terms : Scope → SourceTree → List Conjunct
+on_terms scope source = terms_of scope source.on
 
 abbrev pub count_of_terms_check : List Conjunct → Option BindFault
 count_of_terms_check conjuncts =
@@ -41,8 +54,7 @@ target_fault name (Some e) = None
 target_fault name None = Some (fault.NoSuchColumn name)
 
 abbrev pub target_check : Scope → List ℕ → Option BindFault
-target_check scope name = target_fault name (named_in 0 (table_at scope 0) name)
+target_check scope name = target_fault name (named_in 0 (table_at scope 0) (folded_bytes name))
 
-abbrev pub set_checks : Scope → List SetTree → List (Option BindFault)
-set_checks scope sets =
-    flat_map (λ set. target_check scope set.column ∷ expr_checks scope set.value) sets
+abbrev pub set_checks : Scope → SetTree → List (Option BindFault)
+set_checks scope set = target_check scope set.column ∷ expr_checks scope set.value

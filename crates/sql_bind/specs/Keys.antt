@@ -1,7 +1,7 @@
 -- ORDER BY: a key is the position of a result, the alias of a result, or an expression
 -- (lang_select, "The ORDER BY clause").
-use Rattle.std.specs.Prelude.{ℕ, zero, suc, pos, Bool, false, Option, Some, None}
-use Rattle.std.specs.Prelude.{List, [], ◌∷◌, map, find, slice_get, flat_map, option_map, unwrap_or}
+use Rattle.std.specs.Prelude.{ℕ, pos, ◌-◌, ◌==◌, if◌then◌else◌, Bool, false, Option, Some, None}
+use Rattle.std.specs.Prelude.{List, [], ◌∷◌, map, find, slice_get, option_map, unwrap_or}
 use Rattle.sql_meaning.specs.Letters.{folded_bytes}
 use Rattle.sql_meaning.specs.Expressions.{BExpr}
 use Rattle.sql_meaning.specs.Expressions as plain
@@ -42,8 +42,8 @@ aliased results name =
 
 -- the expression of the result at a position, which counts from 1
 abbrev pub at_position : List ResultColumn → ℕ → Option BExpr
-at_position results zero = None
-at_position results (suc n) = option_map (λ r. r.expr) (slice_get results n)
+at_position results n =
+    if n == 0 then None else option_map (λ r. r.expr) (slice_get results (n - 1))
 
 -- what is meant by a name or a name under COLLATE: a result where one has it for an alias
 abbrev pub under : List ℕ → BExpr → BExpr
@@ -77,9 +77,8 @@ checks_by scope results tree Other = expr_checks scope tree
 abbrev pub key_expr : Scope → List ResultColumn → Tree → BExpr
 key_expr scope results tree = meant_by scope results tree (key_form tree)
 
-abbrev pub key_checks : Scope → List ResultColumn → List KeyTree → List (Option BindFault)
-key_checks scope results keys =
-    flat_map (λ key. checks_by scope results key.expr (key_form key.expr)) keys
+abbrev pub key_checks : Scope → List ResultColumn → KeyTree → List (Option BindFault)
+key_checks scope results key = checks_by scope results key.expr (key_form key.expr)
 
 abbrev pub sort_key : Scope → List ResultColumn → KeyTree → SortKey
 sort_key scope results key = record {

@@ -33,20 +33,25 @@ alias_at scope item = alias_of (table_at scope item)
 abbrev pub width_at : Scope → ℕ → ℕ
 width_at scope item = length (columns_of (table_at scope item))
 
+abbrev pub column_at : Scope → ℕ → ℕ → ResultColumn
+column_at scope item column = unnamed (column_expr (alias_at scope item) item column)
+
 -- the columns of an item, in the table's order
 abbrev pub item_columns : Scope → ℕ → List ResultColumn
 item_columns scope item =
-    map (λ column. unnamed (column_expr (alias_at scope item) item column))
-    (range_with_len 0 (width_at scope item))
+    map (column_at scope item) (range_with_len 0 (width_at scope item))
 
-abbrev pub columns_at : Scope → Option ℕ → List ResultColumn
-columns_at scope None = []
-columns_at scope (Some item) = item_columns scope item
+abbrev pub columns_under : Scope → Option ℕ → List ResultColumn
+columns_under scope None = []
+columns_under scope (Some item) = item_columns scope item
+
+abbrev pub every_column : Scope → List ResultColumn
+every_column scope = flat_map (item_columns scope) (range_with_len 0 (length scope.items))
 
 -- what an entry of the list stands for
 abbrev pub results_of : Scope → ItemTree → List ResultColumn
-results_of scope Star = flat_map (item_columns scope) (range_with_len 0 (length scope.items))
-results_of scope (TableStar table) = columns_at scope (item_named scope table)
+results_of scope Star = every_column scope
+results_of scope (TableStar table) = columns_under scope (item_named scope table)
 results_of scope (Value tree alias) = record { expr = bound scope tree; alias = alias } ∷ []
 
 -- `t.*` where no item is called t
@@ -58,9 +63,6 @@ abbrev pub entry_checks : Scope → ItemTree → List (Option BindFault)
 entry_checks scope Star = []
 entry_checks scope (TableStar table) = star_check table (item_named scope table) ∷ []
 entry_checks scope (Value tree alias) = expr_checks scope tree
-
-abbrev pub result_checks : Scope → List ItemTree → List (Option BindFault)
-result_checks scope entries = flat_map (entry_checks scope) entries
 
 abbrev pub result_columns : Scope → List ItemTree → List ResultColumn
 result_columns scope entries = flat_map (results_of scope) entries

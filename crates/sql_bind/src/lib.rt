@@ -3,7 +3,11 @@
 
 mod binding;
 mod clauses;
+mod conditions;
+mod keys;
+mod needs;
 mod placing;
+mod results;
 mod sources;
 
 pub use binding::bind;

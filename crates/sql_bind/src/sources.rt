@@ -105,8 +105,7 @@ pub(crate) fn scope_of<'s, 'a>(
 {
     let mut scope = Scope::new(alloc, schema);
     for named in list {
-        let folded = fold(alloc, named.name)?;
-        if scope.has_name(folded.as_slice()) {
+        if scope.has_name(alloc, named.name)? {
             return Err(BindFault::SameName(Bytes::copy(alloc, named.name)?));
         }
         scope.push(alloc, named.name, named.item)?;
