@@ -1,3 +1,6 @@
 pub mod Lists
-pub mod Turns
 pub mod Alls
+pub mod Turns
+pub mod Ranges
+pub mod MarkLaws
+pub mod AliasLaws

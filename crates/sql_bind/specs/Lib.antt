@@ -7,3 +7,4 @@ pub mod Needs
 pub mod Binding
 pub mod Marks
 pub mod Views
+pub mod Parts

@@ -47,10 +47,11 @@ columns_kept scope item =
     filter (λ column. not (is_alias (alias_at scope item) column))
     (range_with_len 0 (width_at scope item))
 
-abbrev pub needed_of : Scope → Bound → ℕ → List ℕ
-needed_of scope bound item =
-    if bound.rowids then columns_kept scope item else columns_named scope (exprs_in bound) item
+abbrev pub needed_of : Scope → Bool → List BExpr → ℕ → List ℕ
+needed_of scope rowids exprs item =
+    if rowids then columns_kept scope item else columns_named scope exprs item
 
 -- of each item, its column numbers rising
 abbrev pub needs_in : Scope → Bound → List (List ℕ)
-needs_in scope bound = map (needed_of scope bound) (range_with_len 0 (length scope.items))
+needs_in scope bound =
+    map (needed_of scope bound.rowids (exprs_in bound)) (range_with_len 0 (length scope.items))

@@ -123,10 +123,10 @@ fn note_alias<'a>(
     if aliases.contains_key(key.as_slice()) {
         return Ok(());
     }
-    match aliases.insert(key, expr) {
-        Ok(_) => Ok(()),
-        Err(_) => Err(Memory),
-    }
+    let Ok(_) = aliases.insert(key, expr) else {
+        return Err(Memory);
+    };
+    Ok(())
 }
 
 fn find_aliases<'a>(alloc: Global, results: &[Column<'a>]) -> Result<Aliases<'a>, Memory>

@@ -6,6 +6,7 @@ mod clauses;
 mod conditions;
 mod keys;
 mod needs;
+mod parts;
 mod placing;
 mod results;
 mod sources;

@@ -1,14 +1,21 @@
 //! The columns that a statement needs of each item.
 ghost use Rattle.std.specs.Prelude.{◌≡◌, ◌<◌, ◌++◌, ◌∷◌, ◌==◌, ◌&&◌, ◌^◌, [], map, length, IfOk, OnOk};
-ghost use Rattle.std.specs.List.{list_any};
+ghost use Rattle.std.specs.List.{list_any, range_with_len};
 ghost use Rattle.sql_bound.specs.Expressions.{expr_of, members_of};
 ghost use Rattle.sql_bound.specs.Statements.{conjunct_of, sort_key_of};
-ghost use Rattle.sql_bind.specs.Needs.{names_column, some_names_column};
+ghost use Rattle.sql_bind.specs.Needs.{names_column, some_names_column, columns_kept};
+ghost use Rattle.sql_bind.specs.Needs.{columns_named, needed_of};
 ghost use Rattle.sql_bind.specs.Marks.{Marks, marked_numbers};
+ghost use Rattle.sql_bind.specs.Parts.{exprs_of_parts};
 ghost use Rattle.sql_bind.specs.Views.{results_seen};
 
+use crate::parts::Parts;
+use crate::placing::place_slice;
 use crate::results::Column;
+use bumpalo::Bump;
+use bumpalo::collections::into_bump_slice;
 use sql_bound::{BExpr, BExprs, BKey, Conjunct};
+use sql_names::Scope;
 use sql_value::Memory;
 use std::alloc::Global;
 
@@ -105,4 +112,75 @@ fn numbers(alloc: Global, marks: &[bool]) -> Result<Vec<u32>, Memory>
         }
     }
     Ok(list)
+}
+
+/// The columns of an item that the statement names.
+fn named_columns(alloc: Global, scope: &Scope, item: u32, parts: &Parts) -> Result<Vec<u32>, Memory>
+    requires { item < length scope.now.items }
+    ensures { IfOk result (λ list. list.items ≡ columns_named scope.now (exprs_of_parts parts.now) item) }
+{
+    let width = scope.table(item).columns.as_slice().len();
+    let Ok(mut marks) = vec![in alloc; false; width] else {
+        return Err(Memory);
+    };
+    mark_results(&mut marks, item, parts.results);
+    mark_terms(&mut marks, item, parts.terms);
+    mark_keys(&mut marks, item, parts.keys);
+    numbers(alloc, marks.as_slice())
+}
+
+/// All columns of an item but the alias of its rowid.
+fn kept_columns(alloc: Global, scope: &Scope, item: u32) -> Result<Vec<u32>, Memory>
+    requires { item < length scope.now.items }
+    ensures { IfOk result (λ list. list.items ≡ columns_kept scope.now item) }
+{
+    let table = scope.table(item);
+    let width = table.columns.as_slice().len() as u32;
+    let mut list = Vec::new(alloc);
+    for column in 0..width {
+        if table.alias != Some(column) {
+            push(&mut list, column)?;
+        }
+    }
+    Ok(list)
+}
+
+fn needed_columns(
+    alloc: Global,
+    scope: &Scope,
+    rowids: bool,
+    parts: &Parts,
+    item: u32,
+) -> Result<Vec<u32>, Memory>
+    requires { item < length scope.now.items }
+    ensures { IfOk result (λ list. list.items ≡ needed_of scope.now rowids (exprs_of_parts parts.now) item) }
+{
+    if rowids {
+        kept_columns(alloc, scope, item)
+    } else {
+        named_columns(alloc, scope, item, parts)
+    }
+}
+
+/// Of each item, its columns that the statement needs.
+pub(crate) fn bind_needs<'a>(
+    alloc: Global,
+    arena: &'a Bump,
+    scope: &Scope,
+    rowids: bool,
+    parts: &Parts,
+) -> Result<&'a [&'a [u32]], Memory>
+    ensures { IfOk result (λ needs. map (λ columns. columns.now) needs.now
+        ≡ map (needed_of scope.now rowids (exprs_of_parts parts.now))
+        (range_with_len 0 (length scope.now.items))) }
+{
+    let mut needs: Vec<&'a [u32], &'a Bump> = Vec::new(arena);
+    for item in 0..scope.count() {
+        let columns = needed_columns(alloc, scope, rowids, parts, item)?;
+        let place = place_slice(arena, columns.as_slice())?;
+        if needs.push(place).is_err() {
+            return Err(Memory);
+        }
+    }
+    Ok(into_bump_slice(needs))
 }

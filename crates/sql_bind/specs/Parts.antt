@@ -1,0 +1,27 @@
+-- The bound parts of a statement, and the statement that they make.
+use Rattle.std.specs.Prelude.{List, map, ◌++◌}
+use Rattle.sql_meaning.specs.Expressions.{BExpr}
+use Rattle.sql_meaning.specs.Statements.{Bound}
+use Rattle.sql_tree.specs.Statements.{StatementTree}
+use Rattle.sql_bound.specs.Statements.{conjunct_of, sort_key_of}
+use Rattle.sql_bind.specs.Clauses.{changes_rows, limit_of, offset_of}
+use Rattle.sql_bind.specs.Sources.{NamedItem}
+use Rattle.sql_bind.specs.Views.{results_seen}
+use Rattle.sql_bind.specs.declared.parts.Parts.{Parts}
+
+abbrev pub exprs_of_parts : Parts → List BExpr
+exprs_of_parts parts =
+    map (λ r. r.expr) (results_seen parts.results.now)
+    ++ (map (λ t. t.expr) (map conjunct_of parts.terms.now)
+    ++ map (λ k. k.expr) (map sort_key_of parts.keys.now))
+
+abbrev pub bound_from : List NamedItem → StatementTree → Parts → Bound
+bound_from list tree parts = record {
+  items = map (λ n. n.item) list;
+  rowids = changes_rows tree;
+  results = map (λ r. r.expr) (results_seen parts.results.now);
+  conjuncts = map conjunct_of parts.terms.now;
+  keys = map sort_key_of parts.keys.now;
+  limit = limit_of tree;
+  offset = offset_of tree;
+}
