@@ -40,7 +40,7 @@ joined_more f n start old new before pushed =
     (append_assoc start (flat_map f (range_with_len 0 n)) (f n)
     ∙ ap (λ rs. start ++ rs) (sym (ap (flat_map f) (range_more n) ∙ last)))
 
-kept_more : (keeps : ℕ → Bool) (n : ℕ)
+pub kept_more : (keeps : ℕ → Bool) (n : ℕ)
     → filter keeps (range_with_len 0 (n + 1))
     ≡ filter keeps (range_with_len 0 n) ++ cond (keeps n) (n ∷ []) []
 kept_more keeps n = ap (filter keeps) (range_more n) ∙ filter-append keeps (range_with_len 0 n) (n ∷ [])

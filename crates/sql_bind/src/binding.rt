@@ -6,10 +6,10 @@ ghost use Rattle.sql_bound.specs.Fits.{Fits};
 ghost use Rattle.sql_bound.specs.Statements.{bound_of, needs_of};
 ghost use Rattle.sql_names.specs.Faults.{Answers};
 ghost use Rattle.sql_bind.specs.Clauses as clauses;
-ghost use Rattle.sql_bind.specs.Needs.{needs_in};
 ghost use Rattle.sql_bind.specs.Views.{named_of};
 ghost use Rattle.sql_bind.specs.Binding.{first_failure, bound_statement, needs_statement};
-ghost use Rattle.sql_bind.specs.Binding.{checks, later_checks, bound_in};
+ghost use Rattle.sql_bind.specs.Binding.{checks, later_checks};
+ghost use Rattle.sql_bind.specs.Parts.{whole, whole_in, whole_statement};
 
 use crate::clauses::{entries_of, filter_of, keys_of, sets_of, sources_of};
 use crate::conditions::{bind_condition, bind_ons, check_sets};
@@ -37,17 +37,15 @@ fn bind_in<'a>(
 ) -> Result<Bound<'a>, BindFault>
     requires some { 0 < length scope.now.items }
     requires items { scope.now.items ≡ map (λ n. n.item) (map named_of list.now) }
-    ensures { Answers (λ b. (bound_of b, needs_of b)) result
-        (later_checks scope.now (statement_tree stmt.now))
-        (bound_in scope.now (statement_tree stmt.now),
-        needs_in scope.now (bound_in scope.now (statement_tree stmt.now))) }
+    ensures { Answers whole result (later_checks scope.now (statement_tree stmt.now))
+        (whole_in scope.now (statement_tree stmt.now)) }
 {
     let results = bind_results(alloc, arena, scope, entries_of(stmt))?;
     let mut terms = bind_ons(alloc, arena, scope, sources_of(stmt))?;
     check_sets(alloc, arena, scope, sets_of(stmt))?;
     bind_condition(alloc, arena, scope, &mut terms, filter_of(stmt))?;
     let keys = bind_keys(alloc, arena, scope, results.as_slice(), keys_of(stmt))?;
-    if terms.len() > MOST_TERMS {
+    if terms.as_slice().len() > MOST_TERMS {
         return Err(BindFault::TooManyTerms);
     }
     let parts = Parts {
@@ -65,10 +63,8 @@ fn bind_checked<'a>(
     stmt: &Stmt<'a>,
 ) -> Result<Bound<'a>, BindFault>
     requires { 0 < length (clauses.sources_of (statement_tree stmt.now)) }
-    ensures { Answers (λ b. (bound_of b, needs_of b)) result
-        (checks schema.now (statement_tree stmt.now))
-        (bound_statement schema.now (statement_tree stmt.now),
-        needs_statement schema.now (statement_tree stmt.now)) }
+    ensures { Answers whole result (checks schema.now (statement_tree stmt.now))
+        (whole_statement schema.now (statement_tree stmt.now)) }
 {
     let sources = sources_of(stmt);
     if sources.len() > MOST_TABLES {

@@ -1,8 +1,9 @@
 //! The columns that a statement needs of each item.
-ghost use Rattle.std.specs.Prelude.{◌≡◌, ◌<◌, ◌++◌, ◌∷◌, ◌==◌, ◌&&◌, ◌^◌, [], map, length, IfOk, OnOk};
+ghost use Rattle.std.specs.Prelude.{◌≡◌, ◌<◌, ◌++◌, ◌∷◌, ◌==◌, ◌&&◌, ◌^◌, [], map, length, replicate, false, IfOk, OnOk};
 ghost use Rattle.std.specs.List.{list_any, range_with_len};
 ghost use Rattle.sql_bound.specs.Expressions.{expr_of, members_of};
 ghost use Rattle.sql_bound.specs.Statements.{conjunct_of, sort_key_of};
+ghost use Rattle.sql_names.specs.Names as meant;
 ghost use Rattle.sql_bind.specs.Needs.{names_column, some_names_column, columns_kept};
 ghost use Rattle.sql_bind.specs.Needs.{columns_named, needed_of};
 ghost use Rattle.sql_bind.specs.Marks.{Marks, marked_numbers};
@@ -15,6 +16,7 @@ use crate::results::Column;
 use bumpalo::Bump;
 use bumpalo::collections::into_bump_slice;
 use sql_bound::{BExpr, BExprs, BKey, Conjunct};
+use schema_model::Table;
 use sql_names::Scope;
 use sql_value::Memory;
 use std::alloc::Global;
@@ -100,6 +102,15 @@ fn push(list: &mut Vec<u32>, number: u32) -> Result<(), Memory>
     }
 }
 
+fn mark_parts(marks: &mut [bool], item: u32, parts: &Parts)
+    ensures { Marks (λ column. list_any (names_column item column) (exprs_of_parts parts.now))
+        marks.old marks.new }
+{
+    mark_results(marks, item, parts.results);
+    mark_terms(marks, item, parts.terms);
+    mark_keys(marks, item, parts.keys);
+}
+
 /// The numbers that are marked, rising.
 fn numbers(alloc: Global, marks: &[bool]) -> Result<Vec<u32>, Memory>
     requires { length marks.now < 2 ^ 32 }
@@ -114,19 +125,33 @@ fn numbers(alloc: Global, marks: &[bool]) -> Result<Vec<u32>, Memory>
     Ok(list)
 }
 
+/// Which columns of an item, of so many, are named.
+fn find_marks(alloc: Global, width: usize, item: u32, parts: &Parts) -> Result<Vec<bool>, Memory>
+    ensures { IfOk result (λ marks. Marks
+        (λ column. list_any (names_column item column) (exprs_of_parts parts.now))
+        (replicate width false) marks.items) }
+{
+    let Ok(mut marks) = vec![in alloc; false; width] else {
+        return Err(Memory);
+    };
+    mark_parts(marks.as_mut_slice(), item, parts);
+    Ok(marks)
+}
+
 /// The columns of an item that the statement names.
 fn named_columns(alloc: Global, scope: &Scope, item: u32, parts: &Parts) -> Result<Vec<u32>, Memory>
     requires { item < length scope.now.items }
     ensures { IfOk result (λ list. list.items ≡ columns_named scope.now (exprs_of_parts parts.now) item) }
 {
     let width = scope.table(item).columns.as_slice().len();
-    let Ok(mut marks) = vec![in alloc; false; width] else {
-        return Err(Memory);
-    };
-    mark_results(&mut marks, item, parts.results);
-    mark_terms(&mut marks, item, parts.terms);
-    mark_keys(&mut marks, item, parts.keys);
+    let marks = find_marks(alloc, width, item, parts)?;
     numbers(alloc, marks.as_slice())
+}
+
+fn is_alias(table: &Table, column: u32) -> bool
+    ensures { result ≡ meant.is_alias table.now.alias column }
+{
+    table.alias == Some(column)
 }
 
 /// All columns of an item but the alias of its rowid.
@@ -138,7 +163,7 @@ fn kept_columns(alloc: Global, scope: &Scope, item: u32) -> Result<Vec<u32>, Mem
     let width = table.columns.as_slice().len() as u32;
     let mut list = Vec::new(alloc);
     for column in 0..width {
-        if table.alias != Some(column) {
+        if !is_alias(table, column) {
             push(&mut list, column)?;
         }
     }
@@ -162,6 +187,19 @@ fn needed_columns(
     }
 }
 
+fn push_place<'a>(
+    needs: &mut Vec<&'a [u32], &'a Bump>,
+    columns: &'a [u32],
+) -> Result<(), Memory>
+    ensures { OnOk result (map (λ columns. columns.now) needs.new.items
+        ≡ map (λ columns. columns.now) needs.old.items ++ columns.now ∷ []) }
+{
+    match needs.push(columns) {
+        Ok(()) => Ok(()),
+        Err(_) => Err(Memory),
+    }
+}
+
 /// Of each item, its columns that the statement needs.
 pub(crate) fn bind_needs<'a>(
     alloc: Global,
@@ -178,9 +216,7 @@ pub(crate) fn bind_needs<'a>(
     for item in 0..scope.count() {
         let columns = needed_columns(alloc, scope, rowids, parts, item)?;
         let place = place_slice(arena, columns.as_slice())?;
-        if needs.push(place).is_err() {
-            return Err(Memory);
-        }
+        push_place(&mut needs, place)?;
     }
     Ok(into_bump_slice(needs))
 }
