@@ -1,16 +1,18 @@
 use Rattle.std.proofs.Common.{◌++◌, map, flat_map, subst, sym, ap, ap₂, ◌∙◌}
 use Rattle.sql_tree.specs.Statements.{statement_tree}
-use Rattle.sql_bound.specs.Statements.{conjunct_of}
+use Rattle.sql_bound.specs.Statements.{conjunct_of, sort_key_of}
 use Rattle.sql_names.specs.declared.faults.BindFault.TheVariants.{TooManyTerms}
 use Rattle.sql_bind.specs.Clauses.{sources_of, filter_of}
 use Rattle.sql_bind.specs.Results.{entry_checks, results_of}
 use Rattle.sql_bind.specs.Conditions.{on_checks, on_terms, terms_of, condition_checks, set_checks}
-use Rattle.sql_bind.specs.Keys.{key_checks}
-use Rattle.sql_bind.specs.Views.{results_seen}
+use Rattle.sql_bind.specs.Keys.{key_checks, sort_key}
+use Rattle.sql_bind.specs.Views.{results_seen, named_of}
+use Rattle.sql_bind.specs.declared.parts.Parts.{Parts}
 use Rattle.sql_bind.proofs.Turns.{exits}
 use Rattle.sql_bind.proofs.Terms.{terms_together}
 use Rattle.sql_bind.proofs.Steps.{Fails, Passes, fails_results, fails_ons, fails_sets, fails_filter}
-use Rattle.sql_bind.proofs.Steps.{fails_keys, fails_count, count_fails}
+use Rattle.sql_bind.proofs.Steps.{fails_keys, fails_count, count_fails, all_pass, count_passes}
+use Rattle.sql_bind.proofs.Steps.{same_whole}
 use Rattle.sql_bind.proofs.binding.bind_in.Goals as goal
 
 pub returns-in_err-results : goal.returns-in_err-results
@@ -101,7 +103,14 @@ returns-then-as_slice-gt-MOST_TERMS c =
     let results = ap results_seen c.as_slice.ensures.value ∙ c.in_ok-results.ensures.1
     ∙ ap (flat_map (results_of scope)) c.entries_of.ensures in
     let keys = ap₂ (λ rs ks. flat_map (key_checks scope rs) ks) results c.keys_of.ensures in
-    let p5 = subst Passes keys c.in_ok-keys.ensures.0 in ?
+    let p5 = subst Passes keys c.in_ok-keys.ensures.0 in
+    let terms = ap (map conjunct_of) c.as_slice-2.ensures.value ∙ c.in_ok-bind_condition.ensures.1
+    ∙ ap₂ (λ xs ys. xs ++ ys)
+    (c.in_ok-terms.ensures.1 ∙ ap (flat_map (on_terms scope)) c.sources_of.ensures)
+    (ap (terms_of scope) c.filter_of.ensures)
+    ∙ sym (terms_together scope (sources_of tree) (filter_of tree)) in
+    fails_count scope tree TooManyTerms p1 p2 p3 p4 p5
+    (count_fails scope tree c.as_slice-2.result.now terms c.if-as_slice-gt-MOST_TERMS.true)
 
 pub returns : goal.returns
 returns c =
@@ -118,4 +127,31 @@ returns c =
     let results = ap results_seen c.as_slice.ensures.value ∙ c.in_ok-results.ensures.1
     ∙ ap (flat_map (results_of scope)) c.entries_of.ensures in
     let keys = ap₂ (λ rs ks. flat_map (key_checks scope rs) ks) results c.keys_of.ensures in
-    let p5 = subst Passes keys c.in_ok-keys.ensures.0 in ?
+    let p5 = subst Passes keys c.in_ok-keys.ensures.0 in
+    let counted = ap (map conjunct_of) c.as_slice-2.ensures.value ∙ c.in_ok-bind_condition.ensures.1
+    ∙ ap₂ (λ xs ys. xs ++ ys)
+    (c.in_ok-terms.ensures.1 ∙ ap (flat_map (on_terms scope)) c.sources_of.ensures)
+    (ap (terms_of scope) c.filter_of.ensures)
+    ∙ sym (terms_together scope (sources_of tree) (filter_of tree)) in
+    let terms = ap (map conjunct_of) c.as_slice-4.ensures.value ∙ c.in_ok-bind_condition.ensures.1
+    ∙ ap₂ (λ xs ys. xs ++ ys)
+    (c.in_ok-terms.ensures.1 ∙ ap (flat_map (on_terms scope)) c.sources_of.ensures)
+    (ap (terms_of scope) c.filter_of.ensures)
+    ∙ sym (terms_together scope (sources_of tree) (filter_of tree)) in
+    let held = ap results_seen c.as_slice-3.ensures.value ∙ c.in_ok-results.ensures.1
+    ∙ ap (flat_map (results_of scope)) c.entries_of.ensures in
+    let sorted = ap (map sort_key_of) c.as_slice-5.ensures.value ∙ c.in_ok-keys.ensures.1
+    ∙ ap₂ (λ rs ks. map (sort_key scope rs) ks) results c.keys_of.ensures in
+    let parts : Parts = record {
+      results = c.as_slice-3.result;
+      terms = c.as_slice-4.result;
+      keys = c.as_slice-5.result;
+    } in
+    (
+      all_pass scope tree p1 p2 p3 p4 p5
+          (count_passes scope tree c.as_slice-2.result.now counted
+          c.if-as_slice-gt-MOST_TERMS.false),
+      same_whole scope tree c.in_ok-place_bound.field-0 (map named_of c.args.list.now) parts
+          c.requires.items held terms sorted c.in_ok-place_bound.ensures.bound
+          c.in_ok-place_bound.ensures.needs,
+    )
