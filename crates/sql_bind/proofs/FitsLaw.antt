@@ -1,0 +1,173 @@
+-- A statement that passes its checks fits the schema.
+use Rattle.std.proofs.Common.{◌≡◌, ◌<◌, ◌≤◌, ℕ, Bool, true, false, if◌then◌else◌, None, Some, is_some}
+use Rattle.std.proofs.Common.{List, [], ◌∷◌, map, flat_map, length, not, get_or, refl, ap, sym, subst}
+use Rattle.std.proofs.Common.{◌∙◌, arith, true≢false}
+use Rattle.std.specs.List.{AllByRecursion, slice_get, range_with_len, list_any}
+use Rattle.std.proofs.lemmas.List.{length-map}
+use Rattle.std.proofs.lemmas.List.FromFn.{length-map-range_with_len, get_or-map-range_with_len}
+use Rattle.std.proofs.lemmas.Option.{slice_get_within, get_or_from_slice_get}
+use Rattle.sql_meaning.specs.Items.{Item}
+use Rattle.sql_meaning.specs.Expressions.{BExpr, flat}
+use Rattle.sql_meaning.specs.Statements.{Bound, Conjunct, left_item, OwnersAreLeft, is_left}
+use Rattle.sql_tree.specs.Trees.{Tree}
+use Rattle.sql_tree.specs.Statements.{SourceTree, StatementTree, Select, Update, Delete, KeyTree}
+use Rattle.schema_model.specs.PlainSchemas.{plain_schema, plain_table}
+use Rattle.schema_model.specs.Schemas.{Schema}
+use Rattle.sql_bound.specs.Fits.{Fits, IsSound, StaysLeft, width}
+use Rattle.sql_names.specs.Faults.{first_failing}
+use Rattle.sql_names.specs.Scopes.{Scope, IsScope}
+use Rattle.sql_names.specs.Names.{is_alias}
+use Rattle.sql_names.specs.Binding.{bound}
+use Rattle.sql_bind.specs.Clauses.{sources_of, entries_of, filter_of, keys_of, changes_rows}
+use Rattle.sql_bind.specs.Sources.{scope_of, named_item, from_checks}
+use Rattle.sql_bind.specs.Results.{width_at, alias_at}
+use Rattle.sql_bind.specs.Conditions.{conditions, conjuncts_in, unowned, count_of_terms_check}
+use Rattle.sql_bind.specs.Keys.{sort_key, key_expr}
+use Rattle.sql_bind.specs.Needs.{needed_of, exprs_in, columns_kept, columns_named, names_column}
+use Rattle.sql_bind.specs.Binding.{checks, later_checks, results_in, terms_in, bound_in}
+use Rattle.sql_bind.specs.Binding.{bound_statement, needs_statement, first_failure}
+use Rattle.sql_bind.proofs.Alls.{all_mapped, all_both, all_any, all_each, all_below, all_kept}
+use Rattle.sql_bind.proofs.Passed.{passed_both, passed_one, few, counted, from_is_scope}
+use Rattle.sql_bind.proofs.SoundParts.{wide, results_sound, key_sound, terms_sound}
+use Rattle.sql_bind.proofs.Steps.{of_results, of_ons, of_sets, of_filter, of_keys, of_count}
+
+-- no owner, and a sound expression
+record Common (scope : Scope) (c : Conjunct) : Type 0 where
+  pub sound : IsSound (plain_schema scope.schema) scope.items c.expr
+  pub unowned_is : c.owner ≡ None
+
+first_is_not_left : (schema : Schema) (sources : List SourceTree)
+    → left_item (slice_get (map (λ n. n.item) (map (named_item schema) sources)) 0) ≡ false
+first_is_not_left schema [] = refl
+first_is_not_left schema (source ∷ sources) = refl
+
+one_source : (tree : StatementTree) → changes_rows tree ≡ true → length (sources_of tree) ≡ 1
+one_source (Select s) h = absurd (true≢false (sym h))
+one_source (Update u) h = refl
+one_source (Delete d) h = refl
+
+module _ (scope : Scope) (ok : IsScope scope) where
+  condition_common : (tree : Tree)
+      → AllByRecursion (Common scope) (map unowned (flat (bound scope tree)))
+  condition_common tree =
+      all_mapped (Common scope) unowned (flat (bound scope tree))
+      (all_each (IsSound (plain_schema scope.schema) scope.items) (λ e. Common scope (unowned e))
+      (λ e h. record { sound = h; unowned_is = refl }) (flat (bound scope tree))
+      (terms_sound scope ok tree))
+
+  common_terms : (trees : List Tree) → AllByRecursion (Common scope) (conjuncts_in scope trees)
+  common_terms [] = tt
+  common_terms (tree ∷ trees) =
+      all_both (Common scope) (map unowned (flat (bound scope tree))) (conjuncts_in scope trees)
+      (condition_common tree) (common_terms trees)
+
+  kept_within : (item : ℕ) → AllByRecursion (λ column. column < width_at scope item)
+      (columns_kept scope item)
+  kept_within item =
+      all_kept (λ column. column < width_at scope item)
+      (λ column. not (is_alias (alias_at scope item) column))
+      (range_with_len 0 (width_at scope item))
+      (all_below (λ column. column < width_at scope item) (width_at scope item) (λ k h. h))
+
+  named_within : (exprs : List BExpr) (item : ℕ)
+      → AllByRecursion (λ column. column < width_at scope item) (columns_named scope exprs item)
+  named_within exprs item =
+      all_kept (λ column. column < width_at scope item)
+      (λ column. list_any (names_column item column) exprs)
+      (range_with_len 0 (width_at scope item))
+      (all_below (λ column. column < width_at scope item) (width_at scope item) (λ k h. h))
+
+  needed_within : (rowids : Bool) (exprs : List BExpr) (item : ℕ)
+      → AllByRecursion (λ column. column < width_at scope item) (needed_of scope rowids exprs item)
+  needed_within true exprs item = kept_within item
+  needed_within false exprs item = named_within exprs item
+
+  needed_at : (rowids : Bool) (exprs : List BExpr) (item : ℕ) (columns : List ℕ)
+      → slice_get (map (needed_of scope rowids exprs) (range_with_len 0 (length scope.items))) item
+      ≡ Some columns
+      → AllByRecursion (λ column. column < width (plain_schema scope.schema) scope.items item) columns
+  needed_at rowids exprs item columns is =
+      let needs = map (needed_of scope rowids exprs) (range_with_len 0 (length scope.items)) in
+      let below : item < length scope.items =
+      subst (λ (n : ℕ). item < n)
+      (length-map-range_with_len (needed_of scope rowids exprs) 0 (length scope.items))
+      (slice_get_within needs item columns is) in
+      let same : columns ≡ needed_of scope rowids exprs item =
+      sym (get_or_from_slice_get needs item columns [] is)
+      ∙ get_or-map-range_with_len (needed_of scope rowids exprs) 0 (length scope.items) item item []
+      below (omega arith) in
+      all_each (λ column. column < width_at scope item)
+      (λ column. column < width (plain_schema scope.schema) scope.items item)
+      (λ column h. wide scope.schema column (slice_get scope.items item) h) columns
+      (rw same (needed_within rowids exprs item))
+
+  keys_all_sound : (tree : StatementTree)
+      → AllByRecursion (λ k. IsSound (plain_schema scope.schema) scope.items k.expr)
+      (bound_in scope tree).keys
+  keys_all_sound tree =
+      all_mapped (λ k. IsSound (plain_schema scope.schema) scope.items k.expr)
+      (sort_key scope (results_in scope tree)) (keys_of tree)
+      (all_any
+      (λ key.
+      IsSound (plain_schema scope.schema) scope.items
+      (key_expr scope (results_in scope tree) key.expr))
+      (λ key.
+      key_sound scope ok (results_in scope tree) (results_sound scope ok (entries_of tree)) key.expr)
+      (keys_of tree))
+
+few_terms : (scope : Scope) (tree : StatementTree) → first_failing (later_checks scope tree) ≡ None
+    → length (terms_in scope tree) ≤ 256
+few_terms scope tree h =
+    let a = passed_both (of_results scope tree) _ h in
+    let b = passed_both (of_ons scope tree) _ a.1 in
+    let d = passed_both (of_sets scope tree) _ b.1 in
+    let e = passed_both (of_filter scope tree) _ d.1 in
+    let f = passed_both (of_keys scope tree) (of_count scope tree) e.1 in
+    few 256 (length (terms_in scope tree)) _ (passed_one (count_of_terms_check (terms_in scope tree)) [] f.1).0
+
+-- the plain schema has as many tables
+all_tables : (schema : Schema) (sources : List SourceTree) → IsScope (scope_of schema sources)
+    → AllByRecursion (λ i. i.table < length (plain_schema schema).tables)
+    (scope_of schema sources).items
+all_tables schema sources ok =
+    all_each (λ i. i.table < length schema.tables)
+    (λ i. i.table < length (plain_schema schema).tables)
+    (λ i h. rw (length-map schema.tables plain_table) h) (scope_of schema sources).items ok.tables
+
+no_owner_is : {scope : Scope} (c : Conjunct) → Common scope c → (owner : ℕ) → c.owner ≡ Some owner
+    → ⊥
+no_owner_is c h owner is =
+    true≢false (sym (ap (λ o. is_some o) (sym h.unowned_is ∙ is)))
+
+pub statement_fits : (schema : Schema) (tree : StatementTree) → 0 < length (sources_of tree)
+    → first_failure schema tree ≡ None
+    → Fits (plain_schema schema) (bound_statement schema tree) (needs_statement schema tree)
+statement_fits schema tree some passed =
+    let sources = sources_of tree in
+    let scope = scope_of schema sources in
+    let both = passed_both (from_checks schema sources) (later_checks scope tree) passed in
+    let ok = from_is_scope schema sources both.0 in
+    let exprs = exprs_in (bound_statement schema tree) in
+    let terms = common_terms scope ok (conditions sources (filter_of tree)) in
+    record {
+      some_item = rw (counted schema sources) some;
+      few_items = ok.few;
+      few_conjuncts = few_terms scope tree both.1;
+      one_changed = λ changed. counted schema sources ∙ one_source tree changed;
+      tables = all_tables schema sources ok;
+      results = all_mapped (IsSound (plain_schema schema) scope.items) (λ r. r.expr)
+          (results_in scope tree) (results_sound scope ok (entries_of tree));
+      conjuncts = all_each (Common scope) (λ c. IsSound (plain_schema schema) scope.items c.expr)
+          (λ c h. h.sound) (terms_in scope tree) terms;
+      keys = keys_all_sound scope ok tree;
+      needs_each = length-map-range_with_len (needed_of scope (changes_rows tree) exprs) 0
+          (length scope.items);
+      needed = needed_at scope ok (changes_rows tree) exprs;
+      first = first_is_not_left schema sources;
+      owners = all_each (Common scope)
+          (λ c. (owner : ℕ) → c.owner ≡ Some owner
+          → is_left (bound_statement schema tree) owner ≡ true)
+          (λ c h owner is. absurd (no_owner_is c h owner is)) (terms_in scope tree) terms;
+      owned = all_each (Common scope) StaysLeft (λ c h owner is. absurd (no_owner_is c h owner is))
+          (terms_in scope tree) terms;
+    }

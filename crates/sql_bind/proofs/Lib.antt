@@ -1,0 +1,12 @@
+pub mod Lists
+pub mod Alls
+pub mod Turns
+pub mod Ranges
+pub mod MarkLaws
+pub mod AliasLaws
+pub mod Terms
+pub mod Passed
+pub mod Steps
+pub mod SoundParts
+pub mod FitsLaw
+pub mod FromSteps

@@ -1,0 +1,71 @@
+use Rattle.std.proofs.Common.{◌≤◌, ℕ, length, map, flat_map, [], subst, sym, ap, ◌∙◌}
+use Rattle.std.proofs.lemmas.List.{length-map}
+use Rattle.sql_tree.specs.Statements.{statement_tree, source_tree}
+use Rattle.sql_names.specs.Scopes.{Scope}
+use Rattle.sql_names.specs.Faults.{Answers}
+use Rattle.sql_bind.specs.Clauses.{sources_of}
+use Rattle.sql_bind.specs.Sources.{table_checks, name_checks, named_item, scope_from}
+use Rattle.sql_bind.specs.Views.{named_of}
+use Rattle.sql_bind.specs.Binding.{later_checks}
+use Rattle.sql_bind.specs.Parts.{whole, whole_in, whole_statement}
+use Rattle.sql_bind.proofs.Turns.{exits}
+use Rattle.sql_bind.proofs.Steps.{Fails, Passes}
+use Rattle.sql_bind.proofs.FromSteps.{fails_tables, fails_names, answers_later, known_names}
+use Rattle.sql_bind.proofs.binding.bind_checked.Goals as goal
+
+pub returns-in_err-list : goal.returns-in_err-list
+returns-in_err-list c =
+    let schema = c.args.schema.now in
+    let tree = statement_tree c.args.stmt.now in
+    let few = c.if-sources-gt-MOST_TABLES.false in
+    let fault = c.in_err-list.field-0.0 in
+    let room = subst (λ (n : ℕ). n ≤ 64)
+    (sym (length-map c.sources_of-sources.result.now source_tree)
+    ∙ ap (λ ss. length ss) c.sources_of-sources.ensures) few in
+    exits _ c.from_residual.result fault _ _ c.from_residual.ensures.1
+    (fails_tables schema tree room fault
+    (subst (Fails fault) (ap (flat_map (table_checks schema)) c.sources_of-sources.ensures)
+    c.in_err-list.ensures.answer))
+
+pub scope_of-requires-clause-there : goal.scope_of-requires-clause-there
+scope_of-requires-clause-there c = rw c.as_slice.ensures.value c.in_ok-list.ensures.there
+
+pub returns-in_err-scope : goal.returns-in_err-scope
+returns-in_err-scope c =
+    let schema = c.args.schema.now in
+    let tree = statement_tree c.args.stmt.now in
+    let few = c.if-sources-gt-MOST_TABLES.false in
+    let fault = c.in_err-scope.field-0.0 in
+    let room = subst (λ (n : ℕ). n ≤ 64)
+    (sym (length-map c.sources_of-sources.result.now source_tree)
+    ∙ ap (λ ss. length ss) c.sources_of-sources.ensures) few in
+    let passed = subst Passes (ap (flat_map (table_checks schema)) c.sources_of-sources.ensures)
+    c.in_ok-list.ensures.answer.0 in
+    let items = ap (map named_of) c.as_slice.ensures.value ∙ c.in_ok-list.ensures.answer.1
+    ∙ ap (map (named_item schema)) c.sources_of-sources.ensures in
+    exits _ c.from_residual-in_err-scope.result fault _ _ c.from_residual-in_err-scope.ensures.1
+    (fails_names schema tree room fault passed
+    (subst (Fails fault)
+    (ap (name_checks []) (ap (map (λ n. n.name)) items ∙ known_names schema (sources_of tree)))
+    c.in_err-scope.ensures))
+
+pub returns : goal.returns
+returns c =
+    let schema = c.args.schema.now in
+    let tree = statement_tree c.args.stmt.now in
+    let few = c.if-sources-gt-MOST_TABLES.false in
+    let room = subst (λ (n : ℕ). n ≤ 64)
+    (sym (length-map c.sources_of-sources.result.now source_tree)
+    ∙ ap (λ ss. length ss) c.sources_of-sources.ensures) few in
+    let passed = subst Passes (ap (flat_map (table_checks schema)) c.sources_of-sources.ensures)
+    c.in_ok-list.ensures.answer.0 in
+    let items = ap (map named_of) c.as_slice.ensures.value ∙ c.in_ok-list.ensures.answer.1
+    ∙ ap (map (named_item schema)) c.sources_of-sources.ensures in
+    let names = subst Passes
+    (ap (name_checks []) (ap (map (λ n. n.name)) items ∙ known_names schema (sources_of tree)))
+    c.in_ok-scope.ensures.0 in
+    answers_later schema tree room whole c.bind_in.result (whole_statement schema tree) passed names
+    (subst
+    (λ (scope : Scope).
+    Answers whole c.bind_in.result (later_checks scope tree) (whole_in scope tree))
+    (c.in_ok-scope.ensures.1 ∙ ap (scope_from schema) items) c.bind_in.ensures)

@@ -1,0 +1,10 @@
+pub mod Clauses
+pub mod Sources
+pub mod Results
+pub mod Conditions
+pub mod Keys
+pub mod Needs
+pub mod Binding
+pub mod Marks
+pub mod Views
+pub mod Parts
