@@ -30,6 +30,12 @@ known_names schema [] = refl
 known_names schema (source ∷ sources) =
     ap (λ names. known_as source ∷ names) (known_names schema sources)
 
+pub known_aliases : (schema : Schema) (sources : List SourceTree)
+    → map (λ n. n.alias) (map (named_item schema) sources) ≡ map (λ s. s.alias) sources
+known_aliases schema [] = refl
+known_aliases schema (source ∷ sources) =
+    ap (λ aliases. source.alias ∷ aliases) (known_aliases schema sources)
+
 module _ (schema : Schema) (tree : StatementTree) (room : length (sources_of tree) ≤ 64) where
   abbrev pub of_tables : List (Option BindFault)
   of_tables = flat_map (table_checks schema) (sources_of tree)

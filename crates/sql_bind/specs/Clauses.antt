@@ -1,5 +1,5 @@
 -- The clauses of a statement, whichever it is: a clause that it doesn't have is empty.
-use Rattle.std.specs.Prelude.{Bool, true, false, Option, None, option_map, List, [], ◌∷◌}
+use Rattle.std.specs.Prelude.{ℕ, Bool, true, false, Option, None, option_map, List, [], ◌∷◌, map}
 use Rattle.sql_tree.specs.Trees.{Tree}
 use Rattle.sql_tree.specs.Statements.{SourceTree, ItemTree, KeyTree, SetTree, StatementTree}
 use Rattle.sql_tree.specs.Statements.{Select, Update, Delete}
@@ -47,3 +47,7 @@ abbrev pub changes_rows : StatementTree → Bool
 changes_rows (Select s) = false
 changes_rows (Update u) = true
 changes_rows (Delete d) = true
+
+-- of each source its alias, as it is written
+abbrev pub aliases_statement : StatementTree → List (Option (List ℕ))
+aliases_statement tree = map (λ s. s.alias) (sources_of tree)

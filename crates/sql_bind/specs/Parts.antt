@@ -1,5 +1,5 @@
 -- The bound parts of a statement, and the statement that they make.
-use Rattle.std.specs.Prelude.{ℕ, List, map, ◌++◌}
+use Rattle.std.specs.Prelude.{ℕ, Option, option_map, List, map, ◌++◌}
 use Rattle.sql_meaning.specs.Expressions.{BExpr}
 use Rattle.sql_meaning.specs.Statements.{Bound}
 use Rattle.sql_tree.specs.Statements.{StatementTree}
@@ -30,6 +30,10 @@ bound_from list tree parts = record {
   limit = limit_of tree;
   offset = offset_of tree;
 }
+
+-- of each item its alias
+abbrev pub aliases_of : Declared → List (Option (List ℕ))
+aliases_of b = map (λ item. option_map (λ alias. alias.now) item.alias) b.items.now
 
 -- a bound statement, with its needs
 abbrev pub whole : Declared → Bound × List (List ℕ)

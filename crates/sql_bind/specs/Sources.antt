@@ -51,14 +51,16 @@ table_number (Read number) = number
 table_number Unread = 0
 table_number Missing = 0
 
--- an item of FROM, and the name that the other clauses know it by
+-- an item of FROM, the name that the other clauses know it by, and its alias
 pub record NamedItem : Type 0 where
   pub name : List ℕ
+  pub alias : Option (List ℕ)
   pub item : Item
 
 abbrev pub named_item : Schema → SourceTree → NamedItem
 named_item schema source = record {
   name = known_as source;
+  alias = source.alias;
   item = record { table = table_number (found schema source); cross = source.cross; left = false };
 }
 

@@ -17,7 +17,11 @@ use Rattle.sql_bind.specs.declared.keys.KeyForm.{KeyForm}
 use Rattle.sql_bind.specs.declared.keys.KeyForm.TheVariants as form
 
 abbrev pub named_of : Named → NamedItem
-named_of n = record { name = n.name.now; item = item_of n.item }
+named_of n = record {
+  name = n.name.now;
+  alias = option_map (λ bytes. bytes.now) n.item.alias;
+  item = item_of n.item;
+}
 
 abbrev pub result_of : Column → ResultColumn
 result_of c = record {

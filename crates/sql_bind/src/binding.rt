@@ -1,5 +1,5 @@
 //! Binding a statement.
-ghost use Rattle.std.specs.Prelude.{◌≡◌, ◌<◌, length, map, None, Some, IfOk, OnOk, IfErr};
+ghost use Rattle.std.specs.Prelude.{◌≡◌, ◌<◌, length, map, option_map, None, Some, IfOk, OnOk, IfErr};
 ghost use Rattle.sql_tree.specs.Statements.{statement_tree};
 ghost use Rattle.schema_model.specs.PlainSchemas.{plain_schema};
 ghost use Rattle.sql_bound.specs.Fits.{Fits};
@@ -9,7 +9,7 @@ ghost use Rattle.sql_bind.specs.Clauses as clauses;
 ghost use Rattle.sql_bind.specs.Views.{named_of};
 ghost use Rattle.sql_bind.specs.Binding.{first_failure, bound_statement, needs_statement};
 ghost use Rattle.sql_bind.specs.Binding.{checks, later_checks};
-ghost use Rattle.sql_bind.specs.Parts.{whole, whole_in, whole_statement};
+ghost use Rattle.sql_bind.specs.Parts.{aliases_of, whole, whole_in, whole_statement};
 
 use crate::clauses::{entries_of, filter_of, keys_of, sets_of, sources_of};
 use crate::conditions::{bind_condition, bind_ons, check_sets};
@@ -25,6 +25,7 @@ use sql_tree::Stmt;
 use std::alloc::Global;
 
 const MOST_TABLES: usize = 64;
+
 const MOST_TERMS: usize = 256;
 
 /// What stands behind FROM, bound in the order of its checks.
@@ -37,8 +38,9 @@ fn bind_in<'a>(
 ) -> Result<Bound<'a>, BindFault>
     requires some { 0 < length scope.now.items }
     requires items { scope.now.items ≡ map (λ n. n.item) (map named_of list.now) }
-    ensures { Answers whole result (later_checks scope.now (statement_tree stmt.now))
+    ensures answer { Answers whole result (later_checks scope.now (statement_tree stmt.now))
         (whole_in scope.now (statement_tree stmt.now)) }
+    ensures aliases { IfOk result (λ b. aliases_of b ≡ map (λ n. n.alias) (map named_of list.now)) }
 {
     let results = bind_results(alloc, arena, scope, entries_of(stmt))?;
     let mut terms = bind_ons(alloc, arena, scope, sources_of(stmt))?;
@@ -63,8 +65,10 @@ fn bind_checked<'a>(
     stmt: &Stmt<'a>,
 ) -> Result<Bound<'a>, BindFault>
     requires { 0 < length (clauses.sources_of (statement_tree stmt.now)) }
-    ensures { Answers whole result (checks schema.now (statement_tree stmt.now))
+    ensures answer { Answers whole result (checks schema.now (statement_tree stmt.now))
         (whole_statement schema.now (statement_tree stmt.now)) }
+    ensures aliases { IfOk result (λ b. aliases_of b
+        ≡ clauses.aliases_statement (statement_tree stmt.now)) }
 {
     let sources = sources_of(stmt);
     if sources.len() > MOST_TABLES {
@@ -88,6 +92,9 @@ pub fn bind<'a>(
     requires source { 0 < length (clauses.sources_of (statement_tree stmt.now)) }
     ensures bound { IfOk result (λ b. bound_of b ≡ bound_statement schema.now (statement_tree stmt.now)) }
     ensures needs { IfOk result (λ b. needs_of b ≡ needs_statement schema.now (statement_tree stmt.now)) }
+    ensures aliases { IfOk result (λ b.
+        map (λ item. option_map (λ alias. alias.now) item.alias) b.items.now
+        ≡ clauses.aliases_statement (statement_tree stmt.now)) }
     ensures fits { IfOk result (λ b. Fits (plain_schema schema.now) (bound_of b) (needs_of b)) }
     ensures passed { OnOk result (first_failure schema.now (statement_tree stmt.now) ≡ None) }
     ensures refused { IfErr result (λ fault. (fault ≡ BindFault.Memory → ⊥)

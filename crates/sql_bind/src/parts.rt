@@ -5,7 +5,7 @@ ghost use Rattle.sql_tree.specs.Statements.{statement_tree};
 ghost use Rattle.sql_bound.specs.Expressions.{expr_of};
 ghost use Rattle.sql_bound.specs.Statements.{item_of, bound_of, needs_of};
 ghost use Rattle.sql_bind.specs.Needs.{needs_in};
-ghost use Rattle.sql_bind.specs.Parts.{bound_from};
+ghost use Rattle.sql_bind.specs.Parts.{aliases_of, bound_from};
 ghost use Rattle.sql_bind.specs.Views.{named_of, results_seen};
 
 use crate::clauses::{changes_rows, limit_of, offset_of};
@@ -30,7 +30,10 @@ pub(crate) struct Parts<'s, 'a> {
 }
 
 fn place_items<'a>(arena: &'a Bump, list: &[Named<'a>]) -> Result<&'a [BItem<'a>], Memory>
-    ensures { IfOk result (λ items. map item_of items.now ≡ map (λ n. n.item) (map named_of list.now)) }
+    ensures items { IfOk result (λ items. map item_of items.now
+        ≡ map (λ n. n.item) (map named_of list.now)) }
+    ensures aliases { IfOk result (λ items. map (λ i. option_map (λ alias. alias.now) i.alias) items.now
+        ≡ map (λ n. n.alias) (map named_of list.now)) }
 {
     let mut items: Vec<BItem<'a>, &'a Bump> = Vec::new(arena);
     for named in list {
@@ -69,6 +72,7 @@ pub(crate) fn place_bound<'a>(
         ≡ bound_from (map named_of list.now) (statement_tree stmt.now) parts.now) }
     ensures needs { IfOk result (λ b. needs_of b
         ≡ needs_in scope.now (bound_from (map named_of list.now) (statement_tree stmt.now) parts.now)) }
+    ensures aliases { IfOk result (λ b. aliases_of b ≡ map (λ n. n.alias) (map named_of list.now)) }
 {
     let rowids = changes_rows(stmt);
     Ok(Bound {

@@ -26,4 +26,4 @@ fits_where_bound schema tree (Err fault) some h = tt
 pub returns-clause-fits : goal.returns-clause-fits
 returns-clause-fits c =
     fits_where_bound c.args.schema.now (statement_tree c.args.stmt.now) c.bind_checked.result
-    c.requires.source c.bind_checked.ensures
+    c.requires.source c.bind_checked.ensures.answer

@@ -1,4 +1,4 @@
-use Rattle.std.proofs.Common.{◌≤◌, ℕ, length, map, flat_map, [], subst, sym, ap, ◌∙◌}
+use Rattle.std.proofs.Common.{◌≡◌, ◌≤◌, ℕ, IfOk, length, map, flat_map, [], subst, sym, ap, ◌∙◌}
 use Rattle.std.proofs.lemmas.List.{length-map}
 use Rattle.sql_tree.specs.Statements.{statement_tree, source_tree}
 use Rattle.sql_names.specs.Scopes.{Scope}
@@ -7,14 +7,15 @@ use Rattle.sql_bind.specs.Clauses.{sources_of}
 use Rattle.sql_bind.specs.Sources.{table_checks, name_checks, named_item, scope_from}
 use Rattle.sql_bind.specs.Views.{named_of}
 use Rattle.sql_bind.specs.Binding.{later_checks}
-use Rattle.sql_bind.specs.Parts.{whole, whole_in, whole_statement}
+use Rattle.sql_bind.specs.Parts.{aliases_of, whole, whole_in, whole_statement}
 use Rattle.sql_bind.proofs.Turns.{exits}
 use Rattle.sql_bind.proofs.Steps.{Fails, Passes}
 use Rattle.sql_bind.proofs.FromSteps.{fails_tables, fails_names, answers_later, known_names}
+use Rattle.sql_bind.proofs.FromSteps.{known_aliases}
 use Rattle.sql_bind.proofs.binding.bind_checked.Goals as goal
 
-pub returns-in_err-list : goal.returns-in_err-list
-returns-in_err-list c =
+pub returns-in_err-list-clause-answer : goal.returns-in_err-list-clause-answer
+returns-in_err-list-clause-answer c =
     let schema = c.args.schema.now in
     let tree = statement_tree c.args.stmt.now in
     let few = c.if-sources-gt-MOST_TABLES.false in
@@ -30,8 +31,8 @@ returns-in_err-list c =
 pub scope_of-requires-clause-there : goal.scope_of-requires-clause-there
 scope_of-requires-clause-there c = rw c.as_slice.ensures.value c.in_ok-list.ensures.there
 
-pub returns-in_err-scope : goal.returns-in_err-scope
-returns-in_err-scope c =
+pub returns-in_err-scope-clause-answer : goal.returns-in_err-scope-clause-answer
+returns-in_err-scope-clause-answer c =
     let schema = c.args.schema.now in
     let tree = statement_tree c.args.stmt.now in
     let few = c.if-sources-gt-MOST_TABLES.false in
@@ -49,8 +50,8 @@ returns-in_err-scope c =
     (ap (name_checks []) (ap (map (λ n. n.name)) items ∙ known_names schema (sources_of tree)))
     c.in_err-scope.ensures))
 
-pub returns : goal.returns
-returns c =
+pub returns-clause-answer : goal.returns-clause-answer
+returns-clause-answer c =
     let schema = c.args.schema.now in
     let tree = statement_tree c.args.stmt.now in
     let few = c.if-sources-gt-MOST_TABLES.false in
@@ -68,4 +69,13 @@ returns c =
     (subst
     (λ (scope : Scope).
     Answers whole c.bind_in.result (later_checks scope tree) (whole_in scope tree))
-    (c.in_ok-scope.ensures.1 ∙ ap (scope_from schema) items) c.bind_in.ensures)
+    (c.in_ok-scope.ensures.1 ∙ ap (scope_from schema) items) c.bind_in.ensures.answer)
+
+pub returns-clause-aliases : goal.returns-clause-aliases
+returns-clause-aliases c =
+    let schema = c.args.schema.now in
+    let sources = sources_of (statement_tree c.args.stmt.now) in
+    let items = ap (map named_of) c.as_slice-2.ensures.value ∙ c.in_ok-list.ensures.answer.1
+    ∙ ap (map (named_item schema)) c.sources_of-sources.ensures in
+    subst (λ aliases. IfOk c.bind_in.result (λ b. aliases_of b ≡ aliases))
+    (ap (map (λ n. n.alias)) items ∙ known_aliases schema sources) c.bind_in.ensures.aliases

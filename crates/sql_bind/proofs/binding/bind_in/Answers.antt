@@ -15,8 +15,8 @@ use Rattle.sql_bind.proofs.Steps.{fails_keys, fails_count, count_fails, all_pass
 use Rattle.sql_bind.proofs.Steps.{same_whole}
 use Rattle.sql_bind.proofs.binding.bind_in.Goals as goal
 
-pub returns-in_err-results : goal.returns-in_err-results
-returns-in_err-results c =
+pub returns-in_err-results-clause-answer : goal.returns-in_err-results-clause-answer
+returns-in_err-results-clause-answer c =
     let scope = c.args.scope.now in
     let tree = statement_tree c.args.stmt.now in
     let fault = c.in_err-results.field-0.0 in
@@ -25,8 +25,8 @@ returns-in_err-results c =
     (subst (Fails fault) (ap (flat_map (entry_checks scope)) c.entries_of.ensures)
     c.in_err-results.ensures))
 
-pub returns-in_err-terms : goal.returns-in_err-terms
-returns-in_err-terms c =
+pub returns-in_err-terms-clause-answer : goal.returns-in_err-terms-clause-answer
+returns-in_err-terms-clause-answer c =
     let scope = c.args.scope.now in
     let tree = statement_tree c.args.stmt.now in
     let fault = c.in_err-terms.field-0.0 in
@@ -37,8 +37,8 @@ returns-in_err-terms c =
     (subst (Fails fault) (ap (flat_map (on_checks scope)) c.sources_of.ensures)
     c.in_err-terms.ensures))
 
-pub returns-in_err-check_sets : goal.returns-in_err-check_sets
-returns-in_err-check_sets c =
+pub returns-in_err-check_sets-clause-answer : goal.returns-in_err-check_sets-clause-answer
+returns-in_err-check_sets-clause-answer c =
     let scope = c.args.scope.now in
     let tree = statement_tree c.args.stmt.now in
     let fault = c.in_err-check_sets.field-0.0 in
@@ -52,8 +52,8 @@ returns-in_err-check_sets c =
     (subst (Fails fault) (ap (flat_map (set_checks scope)) c.sets_of.ensures)
     c.in_err-check_sets.ensures))
 
-pub returns-in_err-bind_condition : goal.returns-in_err-bind_condition
-returns-in_err-bind_condition c =
+pub returns-in_err-bind_condition-clause-answer : goal.returns-in_err-bind_condition-clause-answer
+returns-in_err-bind_condition-clause-answer c =
     let scope = c.args.scope.now in
     let tree = statement_tree c.args.stmt.now in
     let fault = c.in_err-bind_condition.field-0.0 in
@@ -69,8 +69,8 @@ returns-in_err-bind_condition c =
     (subst (Fails fault) (ap (condition_checks scope) c.filter_of.ensures)
     c.in_err-bind_condition.ensures))
 
-pub returns-in_err-keys : goal.returns-in_err-keys
-returns-in_err-keys c =
+pub returns-in_err-keys-clause-answer : goal.returns-in_err-keys-clause-answer
+returns-in_err-keys-clause-answer c =
     let scope = c.args.scope.now in
     let tree = statement_tree c.args.stmt.now in
     let fault = c.in_err-keys.field-0.0 in
@@ -88,8 +88,8 @@ returns-in_err-keys c =
     exits _ c.from_residual-in_err-keys.result fault _ _ c.from_residual-in_err-keys.ensures.1
     (fails_keys scope tree fault p1 p2 p3 p4 (subst (Fails fault) keys c.in_err-keys.ensures))
 
-pub returns-then-as_slice-gt-MOST_TERMS : goal.returns-then-as_slice-gt-MOST_TERMS
-returns-then-as_slice-gt-MOST_TERMS c =
+pub returns-then-as_slice-gt-MOST_TERMS-clause-answer : goal.returns-then-as_slice-gt-MOST_TERMS-clause-answer
+returns-then-as_slice-gt-MOST_TERMS-clause-answer c =
     let scope = c.args.scope.now in
     let tree = statement_tree c.args.stmt.now in
     let p1 = subst Passes (ap (flat_map (entry_checks scope)) c.entries_of.ensures)
@@ -112,8 +112,8 @@ returns-then-as_slice-gt-MOST_TERMS c =
     fails_count scope tree TooManyTerms p1 p2 p3 p4 p5
     (count_fails scope tree c.as_slice-2.result.now terms c.if-as_slice-gt-MOST_TERMS.true)
 
-pub returns : goal.returns
-returns c =
+pub returns-clause-answer : goal.returns-clause-answer
+returns-clause-answer c =
     let scope = c.args.scope.now in
     let tree = statement_tree c.args.stmt.now in
     let p1 = subst Passes (ap (flat_map (entry_checks scope)) c.entries_of.ensures)
@@ -146,8 +146,7 @@ returns c =
       results = c.as_slice-3.result;
       terms = c.as_slice-4.result;
       keys = c.as_slice-5.result;
-    } in
-    (
+    } in (
       all_pass scope tree p1 p2 p3 p4 p5
           (count_passes scope tree c.as_slice-2.result.now counted
           c.if-as_slice-gt-MOST_TERMS.false),
