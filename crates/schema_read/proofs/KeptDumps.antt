@@ -3,11 +3,11 @@ use Rattle.std.proofs.Common.{ℕ, suc, ◌+◌, fold, List, [], ◌∷◌, leng
 use Rattle.sql_meaning.specs.Values.{IsBytes}
 use Rattle.sql_tokens.specs.Tokens.{tokens_of}
 use Rattle.sql_tokens.specs.declared.token.Token.{Token}
-use Rattle.sql_lex.specs.Statements.{statements_of}
+use Rattle.sql_lex.specs.Statements.{run_of, statements_of}
 use Rattle.sql_lex.specs.declared.statement_runs.Span.{Span}
 use Rattle.schema_text.specs.Cursor.{Named}
 use Rattle.schema_text.specs.Heads.{IndexHead, create_table_head, create_unread_head, create_index_head}
-use Rattle.schema_read.specs.Dumps.{empty, insert_or_pass, index_or_further, unread_or_further, table_or_further, step, run_of, step_span, dump_of}
+use Rattle.schema_read.specs.Dumps.{empty, insert_or_pass, index_or_further, unread_or_further, table_or_further, step, step_span, dump_of}
 use Rattle.schema_read.specs.Inserts.{InsertHead, insert_head}
 use Rattle.schema_read.specs.declared.state.State.{State}
 use Rattle.schema_read.proofs.Kept.{Kept, statement_passed}
