@@ -2,7 +2,7 @@
 
     python3 bench/read_dump.py PROGRAM
 
-PROGRAM is sqlite3_expert; it is run with the dump as its database and no script.
+PROGRAM is sqlite3_expert; it is run with the dump as its database and an empty script.
 """
 
 import os
@@ -39,7 +39,7 @@ def main():
         write_dump(path)
         size = os.path.getsize(path)
         start = time.monotonic()
-        status = subprocess.run([sys.argv[1], path], stdout=subprocess.DEVNULL).returncode
+        status = subprocess.run([sys.argv[1], "-sql", "", path], stdout=subprocess.DEVNULL).returncode
         seconds = time.monotonic() - start
         peak = resource.getrusage(resource.RUSAGE_CHILDREN).ru_maxrss * 1024
         print(f"{ROWS} rows, {size} bytes: status {status}, {seconds:.2f} s, "
