@@ -25,6 +25,7 @@ use sql_tree::Stmt;
 use std::alloc::Global;
 
 const MOST_TABLES: usize = 64;
+
 const MOST_TERMS: usize = 256;
 
 /// What stands behind FROM, bound in the order of its checks.

@@ -15,8 +15,8 @@ use crate::placing::place_slice;
 use crate::results::Column;
 use bumpalo::Bump;
 use bumpalo::collections::into_bump_slice;
-use sql_bound::{BExpr, BExprs, BKey, Conjunct};
 use schema_model::Table;
+use sql_bound::{BExpr, BExprs, BKey, Conjunct};
 use sql_names::Scope;
 use sql_value::Memory;
 use std::alloc::Global;
@@ -30,7 +30,10 @@ fn mark(marks: &mut [bool], item: u32, expr: &BExpr)
     match expr {
         BExpr::Lit(_) => {}
         BExpr::Param(_) => {}
-        BExpr::Column { item: named, column } => mark_column(marks, item, *named, *column),
+        BExpr::Column {
+            item: named,
+            column,
+        } => mark_column(marks, item, *named, *column),
         BExpr::Rowid { .. } => {}
         BExpr::Plus(inner) => mark(marks, item, inner),
         BExpr::Collate(inner, _) => mark(marks, item, inner),
@@ -187,10 +190,7 @@ fn needed_columns(
     }
 }
 
-fn push_place<'a>(
-    needs: &mut Vec<&'a [u32], &'a Bump>,
-    columns: &'a [u32],
-) -> Result<(), Memory>
+fn push_place<'a>(needs: &mut Vec<&'a [u32], &'a Bump>, columns: &'a [u32]) -> Result<(), Memory>
     ensures { OnOk result (map (λ columns. columns.now) needs.new.items
         ≡ map (λ columns. columns.now) needs.old.items ++ columns.now ∷ []) }
 {

@@ -141,10 +141,7 @@ fn binds_and_refuses(rt: HostRuntime) -> Result<(), Fail> {
         (b"SELECT zz FROM x1, x1", b"twice x1"),
         (b"SELECT zz FROM x1 AS t, y1 T", b"twice T"),
         (b"SELECT zz FROM x1 WHERE yy = 1", b"column zz"),
-        (
-            b"SELECT a FROM x1, x1 AS y WHERE zz = 1",
-            b"ambiguous a",
-        ),
+        (b"SELECT a FROM x1, x1 AS y WHERE zz = 1", b"ambiguous a"),
         (b"SELECT t.* FROM x1 WHERE zz = 1", b"column t.*"),
         (b"SELECT x1.zz FROM x1", b"column x1.zz"),
         (b"SELECT x1.a FROM x1 AS q", b"column x1.a"),
@@ -152,17 +149,11 @@ fn binds_and_refuses(rt: HostRuntime) -> Result<(), Fail> {
             b"SELECT * FROM x1 JOIN y1 ON zz = 1 WHERE yy = 1",
             b"column zz",
         ),
-        (
-            b"SELECT * FROM x1 WHERE yy = 1 ORDER BY 9",
-            b"column yy",
-        ),
+        (b"SELECT * FROM x1 WHERE yy = 1 ORDER BY 9", b"column yy"),
         (b"SELECT * FROM x1 ORDER BY 4", b"position"),
         (b"SELECT * FROM x1 ORDER BY 0", b"position"),
         (b"SELECT * FROM x1 ORDER BY 9, zz", b"position"),
-        (
-            b"SELECT a FROM x1 ORDER BY zz COLLATE foo",
-            b"column zz",
-        ),
+        (b"SELECT a FROM x1 ORDER BY zz COLLATE foo", b"column zz"),
         (
             b"SELECT a FROM x1 WHERE a COLLATE foo = zz",
             b"collation foo",
@@ -185,12 +176,21 @@ fn binds_and_refuses(rt: HostRuntime) -> Result<(), Fail> {
         (b"SELECT a FROM x1 ORDER BY (1) DESC", b"c00  c00/B- 0"),
         (b"SELECT a FROM x1 ORDER BY -1", b"c00  l/B 0"),
         (b"SELECT a FROM x1 ORDER BY +1", b"c00  +/B 0"),
-        (b"SELECT y1.*, x1.* FROM x1, y1", b"c10c11r1c00c01c02   012 01"),
+        (
+            b"SELECT y1.*, x1.* FROM x1, y1",
+            b"c10c11r1c00c01c02   012 01",
+        ),
         (b"SELECT *, * FROM r1", b"c00c01c00c01   01"),
-        (b"SELECT b AS a, a AS q FROM x1 ORDER BY A", b"c01c00  c01/B 01"),
+        (
+            b"SELECT b AS a, a AS q FROM x1 ORDER BY A",
+            b"c01c00  c01/B 01",
+        ),
         (b"SELECT b AS a FROM x1 ORDER BY x1.a", b"c01  c00/B 01"),
         (b"SELECT b AS a FROM x1 ORDER BY +a", b"c01  +/B 01"),
-        (b"SELECT a AS z, b AS Z FROM x1 ORDER BY z", b"c00c01  c00/B 01"),
+        (
+            b"SELECT a AS z, b AS Z FROM x1 ORDER BY z",
+            b"c00c01  c00/B 01",
+        ),
         (
             b"SELECT b AS a FROM x1 ORDER BY a COLLATE nocase DESC",
             b"c01  c01N/N- 1",

@@ -146,8 +146,7 @@ returns c =
       results = c.as_slice-3.result;
       terms = c.as_slice-4.result;
       keys = c.as_slice-5.result;
-    } in
-    (
+    } in (
       all_pass scope tree p1 p2 p3 p4 p5
           (count_passes scope tree c.as_slice-2.result.now counted
           c.if-as_slice-gt-MOST_TERMS.false),
