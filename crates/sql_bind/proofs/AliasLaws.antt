@@ -1,7 +1,7 @@
 -- Results noted under their aliases.
 use Rattle.std.proofs.Common.{◌≡◌, ℕ, Bool, true, false, cond, Option, Some, None, is_some, option_map}
 use Rattle.std.proofs.Common.{List, [], ◌∷◌, ◌++◌, refl, ap, sym, subst, ◌∙◌}
-use Rattle.std.proofs.Common.{true≢false, ◌+◌, ◌<◌, length, get_or, take, map}
+use Rattle.std.proofs.Common.{true≢false, ◌+◌, ◌<◌, length, get_or, take}
 use Rattle.std.specs.Borrow.{Bor}
 use Rattle.std.specs.Global.{Vec}
 use Rattle.std.specs.List.{find}

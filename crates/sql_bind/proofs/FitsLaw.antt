@@ -1,16 +1,15 @@
 -- A statement that passes its checks fits the schema.
-use Rattle.std.proofs.Common.{◌≡◌, ◌<◌, ◌≤◌, ℕ, Bool, true, false, if◌then◌else◌, None, Some, is_some}
-use Rattle.std.proofs.Common.{List, [], ◌∷◌, map, flat_map, length, not, get_or, refl, ap, sym, subst}
+use Rattle.std.proofs.Common.{◌≡◌, ◌<◌, ◌≤◌, ℕ, Bool, true, false, None, Some, is_some}
+use Rattle.std.proofs.Common.{List, [], ◌∷◌, map, length, not, refl, ap, sym, subst}
 use Rattle.std.proofs.Common.{◌∙◌, arith, true≢false}
 use Rattle.std.specs.List.{AllByRecursion, slice_get, range_with_len, list_any}
 use Rattle.std.proofs.lemmas.List.{length-map}
 use Rattle.std.proofs.lemmas.List.FromFn.{length-map-range_with_len, get_or-map-range_with_len}
 use Rattle.std.proofs.lemmas.Option.{slice_get_within, get_or_from_slice_get}
-use Rattle.sql_meaning.specs.Items.{Item}
 use Rattle.sql_meaning.specs.Expressions.{BExpr, flat}
-use Rattle.sql_meaning.specs.Statements.{Bound, Conjunct, left_item, OwnersAreLeft, is_left}
+use Rattle.sql_meaning.specs.Statements.{Conjunct, left_item, is_left}
 use Rattle.sql_tree.specs.Trees.{Tree}
-use Rattle.sql_tree.specs.Statements.{SourceTree, StatementTree, Select, Update, Delete, KeyTree}
+use Rattle.sql_tree.specs.Statements.{SourceTree, StatementTree, Select, Update, Delete}
 use Rattle.schema_model.specs.PlainSchemas.{plain_schema, plain_table}
 use Rattle.schema_model.specs.Schemas.{Schema}
 use Rattle.sql_bound.specs.Fits.{Fits, IsSound, StaysLeft, width}
@@ -24,7 +23,7 @@ use Rattle.sql_bind.specs.Results.{width_at, alias_at}
 use Rattle.sql_bind.specs.Conditions.{conditions, conjuncts_in, unowned, count_of_terms_check}
 use Rattle.sql_bind.specs.Keys.{sort_key, key_expr}
 use Rattle.sql_bind.specs.Needs.{needed_of, exprs_in, columns_kept, columns_named, names_column}
-use Rattle.sql_bind.specs.Binding.{checks, later_checks, results_in, terms_in, bound_in}
+use Rattle.sql_bind.specs.Binding.{later_checks, results_in, terms_in, bound_in}
 use Rattle.sql_bind.specs.Binding.{bound_statement, needs_statement, first_failure}
 use Rattle.sql_bind.proofs.Alls.{all_mapped, all_both, all_any, all_each, all_below, all_kept}
 use Rattle.sql_bind.proofs.Passed.{passed_both, passed_one, few, counted, from_is_scope}

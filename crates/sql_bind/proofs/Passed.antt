@@ -5,7 +5,6 @@ use Rattle.std.proofs.Common.{refl, ap, sym, subst, ◌∙◌, arith}
 use Rattle.std.specs.List.{AllByRecursion}
 use Rattle.std.proofs.lemmas.List.{length-map, append_assoc, append-nil}
 use Rattle.sql_meaning.specs.Letters.{folded_bytes}
-use Rattle.sql_meaning.specs.Items.{Item}
 use Rattle.sql_tree.specs.Statements.{SourceTree}
 use Rattle.schema_model.specs.Names.{is_name, has_name, Differ}
 use Rattle.schema_model.specs.Schemas.{Schema, found_or, table_names, unread_names}

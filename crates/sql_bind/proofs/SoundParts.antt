@@ -1,7 +1,7 @@
 -- The bound parts of a statement are sound.
 use Rattle.std.proofs.Common.{◌≡◌, ◌<◌, ◌==◌, ◌-◌, ℕ, Bool, true, false, cond, if◌then◌else◌}
-use Rattle.std.proofs.Common.{Option, None, Some, option_map, unwrap_or, List, [], ◌∷◌, map, flat_map}
-use Rattle.std.proofs.Common.{length, refl, ap, sym, subst, ◌∙◌, arith}
+use Rattle.std.proofs.Common.{Option, None, Some, option_map, unwrap_or, List, map}
+use Rattle.std.proofs.Common.{length, refl, subst, arith}
 use Rattle.std.specs.List.{AllByRecursion, slice_get, range_with_len, find}
 use Rattle.std.proofs.lemmas.List.{length-map}
 use Rattle.std.proofs.lemmas.Option.{slice_get-map}
@@ -14,7 +14,7 @@ use Rattle.sql_meaning.specs.Expressions.{Cmp, OneOf, IsNull, Not, All, Any, Nil
 use Rattle.sql_meaning.specs.Values as value
 use Rattle.sql_meaning.proofs.Links.{all_at}
 use Rattle.sql_tree.specs.Trees.{Tree}
-use Rattle.sql_tree.specs.Statements.{ItemTree, Star, TableStar, Value, KeyTree}
+use Rattle.sql_tree.specs.Statements.{ItemTree, Star, TableStar, Value}
 use Rattle.schema_model.specs.Names.{is_name}
 use Rattle.schema_model.specs.PlainSchemas.{plain_schema, plain_table, plain_column}
 use Rattle.schema_model.specs.Schemas.{Schema, columns_of}
@@ -23,11 +23,11 @@ use Rattle.sql_meaning.specs.Items.{FitsExprs}
 use Rattle.sql_bound.specs.Fits.{IsSound, AllNamesExist}
 use Rattle.sql_names.specs.Scopes.{Scope, IsScope, table_at}
 use Rattle.sql_names.specs.Scopes as scopes
-use Rattle.sql_names.specs.Names.{column_expr, is_alias, item_named}
+use Rattle.sql_names.specs.Names.{is_alias, item_named}
 use Rattle.sql_names.specs.Binding.{bound}
 use Rattle.sql_names.proofs.Sound.{bound_sound}
 use Rattle.sql_names.proofs.Tables.{position_within}
-use Rattle.sql_bind.specs.Results.{ResultColumn, unnamed, width_at, alias_at, column_at, item_columns}
+use Rattle.sql_bind.specs.Results.{ResultColumn, width_at, alias_at, column_at, item_columns}
 use Rattle.sql_bind.specs.Results.{columns_under, every_column, results_of, result_columns}
 use Rattle.sql_bind.specs.Keys.{KeyForm, Position, Bare, BareUnder, Other, key_form, at_position}
 use Rattle.sql_bind.specs.Keys.{aliased, under, meant_by, key_expr, is_called}

@@ -1,9 +1,8 @@
 -- The terms of ON and WHERE, a condition after another.
 use Rattle.std.proofs.Common.{◌≡◌, Option, None, Some, option_to_list, List, [], ◌∷◌, ◌++◌, map}
 use Rattle.std.proofs.Common.{flat_map, refl, ap, sym, ◌∙◌}
-use Rattle.std.specs.List.{filter_map, cons_option}
+use Rattle.std.specs.List.{cons_option}
 use Rattle.std.proofs.lemmas.List.{append_assoc, append-nil}
-use Rattle.sql_meaning.specs.Statements.{Conjunct}
 use Rattle.sql_meaning.specs.Expressions.{flat}
 use Rattle.sql_tree.specs.Trees.{Tree}
 use Rattle.sql_tree.specs.Statements.{SourceTree}

@@ -1,6 +1,6 @@
 -- The conditions of a statement, and what SET names.
 use Rattle.std.specs.Prelude.{ℕ, nat_lt, if◌then◌else◌, Option, Some, None, option_to_list}
-use Rattle.std.specs.Prelude.{List, [], ◌∷◌, ◌++◌, map, length, flat_map, filter_map}
+use Rattle.std.specs.Prelude.{List, [], ◌∷◌, ◌++◌, map, length, filter_map}
 use Rattle.sql_meaning.specs.Letters.{folded_bytes}
 use Rattle.sql_meaning.specs.Expressions.{BExpr, flat}
 use Rattle.sql_meaning.specs.Statements.{Conjunct}

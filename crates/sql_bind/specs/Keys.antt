@@ -1,7 +1,7 @@
 -- ORDER BY: a key is the position of a result, the alias of a result, or an expression
 -- (lang_select, "The ORDER BY clause").
 use Rattle.std.specs.Prelude.{ℕ, pos, ◌-◌, ◌==◌, if◌then◌else◌, Bool, false, Option, Some, None}
-use Rattle.std.specs.Prelude.{List, [], ◌∷◌, map, find, slice_get, option_map, unwrap_or}
+use Rattle.std.specs.Prelude.{List, [], ◌∷◌, find, slice_get, option_map, unwrap_or}
 use Rattle.sql_meaning.specs.Letters.{folded_bytes}
 use Rattle.sql_meaning.specs.Expressions.{BExpr}
 use Rattle.sql_meaning.specs.Expressions as plain

@@ -79,10 +79,10 @@ fn bind_checked<'a>(
     bind_in(alloc, arena, &scope, list.as_slice(), stmt)
 }
 
-/// The statement with its names bound. Each fault but `Memory` comes where it is that of the first
-/// check which fails: the number of tables in FROM, each table, each name in FROM, then each name,
-/// collation and position of the result list, ON, SET, WHERE and ORDER BY, and last the number of
-/// conditions joined by AND.
+/// The statement with its names bound (<https://sqlite.org/lang_select.html>). Each fault but
+/// `Memory` comes where it is that of the first check which fails: the number of tables in FROM,
+/// each table, each name in FROM, then each name, collation and position of the result list, ON,
+/// SET, WHERE and ORDER BY, and last the number of conditions joined by AND.
 pub fn bind<'a>(
     alloc: Global,
     arena: &'a Bump,
@@ -90,8 +90,10 @@ pub fn bind<'a>(
     stmt: &Stmt<'a>,
 ) -> Result<Bound<'a>, BindFault>
     requires source { 0 < length (clauses.sources_of (statement_tree stmt.now)) }
-    ensures bound { IfOk result (λ b. bound_of b ≡ bound_statement schema.now (statement_tree stmt.now)) }
-    ensures needs { IfOk result (λ b. needs_of b ≡ needs_statement schema.now (statement_tree stmt.now)) }
+    ensures bound { IfOk result (λ b.
+        bound_of b ≡ bound_statement schema.now (statement_tree stmt.now)) }
+    ensures needs { IfOk result (λ b.
+        needs_of b ≡ needs_statement schema.now (statement_tree stmt.now)) }
     ensures aliases { IfOk result (λ b.
         map (λ item. option_map (λ alias. alias.now) item.alias) b.items.now
         ≡ clauses.aliases_statement (statement_tree stmt.now)) }

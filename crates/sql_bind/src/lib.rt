@@ -12,3 +12,6 @@ mod results;
 mod sources;
 
 pub use binding::bind;
+
+#[cfg(test)]
+mod tests;

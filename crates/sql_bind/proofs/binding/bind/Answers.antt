@@ -1,4 +1,4 @@
-use Rattle.std.proofs.Common.{◌≡◌, ◌<◌, ℕ, List, length, Result, Ok, Err, IfOk, subst, sym}
+use Rattle.std.proofs.Common.{◌<◌, ℕ, List, length, Result, Ok, Err, IfOk, subst, sym}
 use Rattle.sql_meaning.specs.Statements as plain
 use Rattle.sql_tree.specs.Statements.{statement_tree, StatementTree}
 use Rattle.schema_model.specs.Schemas.{Schema}

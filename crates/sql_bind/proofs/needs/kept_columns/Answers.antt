@@ -1,4 +1,4 @@
-use Rattle.std.proofs.Common.{◌≡◌, ℕ, true, false, not, ap, sym, ◌∙◌}
+use Rattle.std.proofs.Common.{ℕ, not, ap, sym, ◌∙◌}
 use Rattle.sql_names.specs.Names.{is_alias}
 use Rattle.sql_bind.specs.Results.{alias_at, alias_of}
 use Rattle.sql_bind.proofs.Ranges.{kept_yes, kept_no}

@@ -1,7 +1,7 @@
-use Rattle.std.proofs.Common.{◌≡◌, ℕ, Option, Some, None}
+use Rattle.std.proofs.Common.{◌≡◌, ℕ, Option, Some}
 use Rattle.sql_meaning.specs.Expressions.{BExpr}
 use Rattle.schema_model.specs.declared.tables.Table.{Table}
-use Rattle.sql_names.specs.Scopes.{Scope, table_at}
+use Rattle.sql_names.specs.Scopes.{table_at}
 use Rattle.sql_names.specs.Names.{column_expr}
 use Rattle.sql_bind.specs.Results.{column_at, alias_of, unnamed}
 use Rattle.sql_bind.specs.Views.{results_seen}

@@ -1,5 +1,4 @@
-use Rattle.std.proofs.Common.{◌<◌, length, subst, sym}
-use Rattle.std.specs.List.{AllByRecursion}
+use Rattle.std.proofs.Common.{◌<◌, length}
 use Rattle.sql_tree.specs.Statements.{source_tree}
 use Rattle.sql_bind.specs.Sources.{table_checks, named_item}
 use Rattle.sql_bind.specs.Views.{named_of}
