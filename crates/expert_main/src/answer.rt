@@ -76,7 +76,11 @@ fn answer_over<'a>(alloc: Global, script: &[u8], database: &[u8]) -> Result<Answ
 }
 
 /// The answer on a script and a database of at most 67,108,864 bytes, or why there is none.
-pub fn answer_texts<'a>(alloc: Global, script: &[u8], database: &[u8]) -> Result<Answer, Refusal<'a>>
+pub fn answer_texts<'a>(
+    alloc: Global,
+    script: &[u8],
+    database: &[u8],
+) -> Result<Answer, Refusal<'a>>
     requires { length database.now ≤ 67108864 }
     ensures answered { IfOk result (λ answer. gives answer ≡ run_texts script.now database.now) }
     ensures refused { IfErr result (λ refusal. status_of refusal ≢ 6

@@ -21,7 +21,10 @@ fn shelf(alloc: Global, dump: &str, failing: u64, most: u64) -> Result<MemoryShe
     requires { 1 ≤ most }
 {
     let mut files = Files::new(alloc);
-    files.push((Bytes::copy(alloc, b"db")?, Bytes::copy(alloc, dump.as_bytes())?))?;
+    files.push((
+        Bytes::copy(alloc, b"db")?,
+        Bytes::copy(alloc, dump.as_bytes())?,
+    ))?;
     Ok(MemoryShelf::new(files, call(alloc, failing)?, most))
 }
 
@@ -120,28 +123,56 @@ fn refuses_by_name(rt: HostRuntime) -> Result<(), Fail> {
     for (script, why) in [
         ("SELECT 'ab", "unrecognized token"),
         ("SELECT a FROM x1 WHERE a = = 5", "syntax error"),
-        ("SELECT a FROM x1 WHERE a = 1.23456", "number outside this profile"),
-        ("SELECT a FROM x1 WHERE a + 1 = 2", "not in this profile: ARITHMETIC"),
-        ("SELECT a FROM x1 WHERE a+1 = 1.23456", "not in this profile: ARITHMETIC"),
-        ("SELECT a FROM x1 WHERE a IN (SELECT 1)", "not in this profile: SUBQUERY"),
-        ("INSERT INTO x1 VALUES(1,2,3)", "not in this profile: INSERT"),
+        (
+            "SELECT a FROM x1 WHERE a = 1.23456",
+            "number outside this profile",
+        ),
+        (
+            "SELECT a FROM x1 WHERE a + 1 = 2",
+            "not in this profile: ARITHMETIC",
+        ),
+        (
+            "SELECT a FROM x1 WHERE a+1 = 1.23456",
+            "not in this profile: ARITHMETIC",
+        ),
+        (
+            "SELECT a FROM x1 WHERE a IN (SELECT 1)",
+            "not in this profile: SUBQUERY",
+        ),
+        (
+            "INSERT INTO x1 VALUES(1,2,3)",
+            "not in this profile: INSERT",
+        ),
         ("SELECT 1", "not in this profile: SELECT WITHOUT FROM"),
         ("SELECT * FROM nope, x1, x1", "no such table: nope"),
         ("SELECT * FROM v", "table not read: v"),
         ("SELECT zz FROM x1", "no such column: zz"),
         ("SELECT x1.zz FROM x1", "no such column: x1.zz"),
         ("SELECT \"t\".* FROM x1", "no such column: t.*"),
-        ("SELECT a FROM x1, x1 AS y WHERE zz = 1", "ambiguous column name: a"),
+        (
+            "SELECT a FROM x1, x1 AS y WHERE zz = 1",
+            "ambiguous column name: a",
+        ),
         ("SELECT * FROM x1, x1", "name used twice in FROM: x1"),
-        ("SELECT * FROM x1 ORDER BY 4", "ORDER BY position out of range"),
-        ("SELECT * FROM x1 WHERE a COLLATE foo = 1", "no such collation: foo"),
+        (
+            "SELECT * FROM x1 ORDER BY 4",
+            "ORDER BY position out of range",
+        ),
+        (
+            "SELECT * FROM x1 WHERE a COLLATE foo = 1",
+            "no such collation: foo",
+        ),
         ("SELECT * FROM x1 ORDER BY a", "form not built yet"),
         ("SELECT * FROM x1 LIMIT 1", "form not built yet"),
         ("SELECT * FROM x1, x1 AS y", "form not built yet"),
         ("UPDATE x1 SET a = 1", "form not built yet"),
         ("DELETE FROM x1", "form not built yet"),
     ] {
-        let ran = run(alloc, &["-sql", script, "db"], "CREATE TABLE x1(a,b,c); CREATE VIEW v AS x")?;
+        let ran = run(
+            alloc,
+            &["-sql", script, "db"],
+            "CREATE TABLE x1(a,b,c); CREATE VIEW v AS x",
+        )?;
         assert_eq!(rt; ran.status, 3, "{script}");
         let out = format!(in alloc; "-- Statement 1\nrefused: {why}\n\n{NOTHING}")?;
         assert_eq!(rt; ran.out.as_slice(), out.as_bytes(), "{script}");

@@ -35,7 +35,7 @@ fn add_single(
     };
     let others = schema.unread_count() > 0 || schema.index_count() > 0;
     if others || schema.table_count() > 100 || name_taken(schema, lower.as_slice()) {
-        return Ok(());
+        return Err(Memory);
     }
     add_table(alloc, schema, table)
 }

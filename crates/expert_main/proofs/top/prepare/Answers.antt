@@ -13,8 +13,7 @@ returns-in-Ok-answer_texts-clause-answered g c =
 
 pub returns-in-Ok-answer_texts-clause-read : goal.returns-in-Ok-answer_texts-clause-read
 returns-in-Ok-answer_texts-clause-read g c =
-    let held = one_file c.args.words.now _ c.in-Ok.database c.in-Some.ensures in
-    (
+    let held = one_file c.args.words.now _ c.in-Ok.database c.in-Some.ensures in (
       c.in-Ok.database,
       runs_texts (Some ((database_of c.args.words.now, c.in-Ok.database) ∷ [])) c.args.words.now _
           c.in-Ok.database _ c.in-Some.ensures held
