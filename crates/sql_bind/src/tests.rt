@@ -112,7 +112,9 @@ fn becomes(alloc: Global, schema: &Schema, text: &[u8]) -> Result<Bytes, Memory>
     if text.len() > 10_000 {
         return Err(Memory);
     }
-    let tokens = lex(alloc, text)?;
+    let Ok(tokens) = lex(alloc, text) else {
+        return Err(Memory);
+    };
     let run = tokens.as_slice();
     if run.len() > 10_000 {
         return Err(Memory);
@@ -221,10 +223,14 @@ fn binds_and_refuses(rt: HostRuntime) -> Result<(), Fail> {
         (b"DELETE FROM y1", b"   01"),
     ];
     let Ok(dump) = read_dump(alloc, TABLES) else {
-        return Err(Memory)?;
+        assert!(rt; false);
+        return Ok(());
     };
     for (text, want) in cases {
-        let shown = becomes(alloc, &dump.schema, text)?;
+        let Ok(shown) = becomes(alloc, &dump.schema, text) else {
+            assert!(rt; false);
+            return Ok(());
+        };
         assert!(rt; shown.as_slice() == want);
     }
     Ok(())
@@ -252,11 +258,23 @@ fn with_terms(alloc: Global, count: u32) -> Result<Bytes, Memory> {
     Ok(text)
 }
 
+/// Whether a statement is refused so; where memory is wanting it is refused otherwise.
+fn is_refused(alloc: Global, schema: &Schema, text: Result<Bytes, Memory>, why: &[u8]) -> bool {
+    match text {
+        Ok(text) => match becomes(alloc, schema, text.as_slice()) {
+            Ok(shown) => shown.as_slice() == why,
+            Err(_) => false,
+        },
+        Err(_) => false,
+    }
+}
+
 #[test]
 fn counts_tables_and_terms(rt: HostRuntime) -> Result<(), Fail> {
     let alloc = rt.alloc();
     let Ok(dump) = read_dump(alloc, TABLES) else {
-        return Err(Memory)?;
+        assert!(rt; false);
+        return Ok(());
     };
     for (count, tables, terms) in [
         (63, false, false),
@@ -264,12 +282,10 @@ fn counts_tables_and_terms(rt: HostRuntime) -> Result<(), Fail> {
         (256, true, false),
         (257, true, true),
     ] {
-        let text = over_tables(alloc, count)?;
-        let shown = becomes(alloc, &dump.schema, text.as_slice())?;
-        assert!(rt; (shown.as_slice() == b"tables".as_slice()) == tables);
-        let text = with_terms(alloc, count)?;
-        let shown = becomes(alloc, &dump.schema, text.as_slice())?;
-        assert!(rt; (shown.as_slice() == b"terms".as_slice()) == terms);
+        assert!(rt;
+            is_refused(alloc, &dump.schema, over_tables(alloc, count), b"tables") == tables
+        );
+        assert!(rt; is_refused(alloc, &dump.schema, with_terms(alloc, count), b"terms") == terms);
     }
     Ok(())
 }
