@@ -16,7 +16,3 @@ file_of (file ∷ files) name =
 -- the shelf tells its files, and has none of this name
 abbrev pub Lacks : Option (List File) → List ℕ → Type 0
 Lacks told name = IsSomeAnd told (λ files. file_of files name ≡ None)
-
--- the shelf tells its files, and the one of this name holds these bytes
-abbrev pub Holds : Option (List File) → List ℕ → List ℕ → Type 0
-Holds told name bytes = IsSomeAnd told (λ files. file_of files name ≡ Some bytes)

@@ -17,6 +17,3 @@ pub use memory_sink::MemorySink;
 pub use real::{FileShelf, StdSink};
 pub use shelf::{ReadFault, Shelf, read_file};
 pub use sink::{Failed, Sink, write_all};
-
-#[cfg(test)]
-mod tests;

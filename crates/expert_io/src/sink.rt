@@ -1,8 +1,8 @@
 //! A sink of bytes.
-ghost use Rattle.std.specs.Prelude.{◌≡◌, ◌<◌, ◌≤◌, ℕ, List, length, IfOk, OnOk, OnErr};
+ghost use Rattle.std.specs.Prelude.{◌<◌, ◌≤◌, ℕ, List, length, IfOk, OnOk, OnErr};
 ghost use Rattle.std.specs.declared.option.Option.{Option};
 ghost use Rattle.std.specs.Io.KnownBytes.{Appends, WriteAppends};
-ghost use Rattle.expert_io.specs.Faults.{Rose, HasCause};
+ghost use Rattle.expert_io.specs.Faults.{HasCause};
 ghost use Rattle.expert_io.specs.Written.{AppendsProperPrefix};
 
 /// A call failed, and had a reason to.

@@ -1,5 +1,5 @@
 //! From a database's dump and a script to the report.
-ghost use Rattle.std.specs.Prelude.{◌≡◌, ◌≢◌, ◌≤◌, ◌<◌, ◌^◌, length, true, IfOk, IfErr, OnOk};
+ghost use Rattle.std.specs.Prelude.{◌≡◌, ◌≢◌, ◌≤◌, ◌<◌, ◌^◌, length, true, IfOk, IfErr};
 ghost use Rattle.expert_report.specs.Reports.{text_of};
 ghost use Rattle.expert_main.specs.Run as meant;
 ghost use Rattle.expert_main.specs.Run.{Means, advised_of, advised_on, answered, refused};

@@ -7,6 +7,3 @@ mod top;
 mod words;
 
 pub use top::expert;
-
-#[cfg(test)]
-mod tests;

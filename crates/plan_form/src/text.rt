@@ -1,5 +1,5 @@
 //! The text of a plan (<https://sqlite.org/eqp.html>), in the form without the word TABLE.
-ghost use Rattle.std.specs.Prelude.{◌≡◌, ◌++◌, ◌<◌, ◌≤◌, length, map, option_map, slice_get, IfOk, OnOk};
+ghost use Rattle.std.specs.Prelude.{◌≡◌, ◌++◌, ◌<◌, length, option_map, slice_get, IfOk, OnOk};
 ghost use Rattle.std.specs.List.{AllByRecursion};
 ghost use Rattle.sql_bound.specs.Statements.{bound_of};
 ghost use Rattle.plan_form.specs.Plans.{plan_of};

@@ -23,6 +23,3 @@ pub use print::{append_columns, append_name, print_create};
 pub use rows::{Row, RowList, Tables};
 pub use schema::{Schema, schema_is_sound};
 pub use tables::{Found, Table};
-
-#[cfg(test)]
-mod tests;

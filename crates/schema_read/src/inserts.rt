@@ -1,5 +1,5 @@
 //! INSERT statements.
-ghost use Rattle.std.specs.Prelude.{◌≡◌, ◌++◌, ◌∷◌, [], map, option_map, slice_set, OnOk, IfOk};
+ghost use Rattle.std.specs.Prelude.{◌≡◌, [], map, option_map, slice_set, OnOk, IfOk};
 ghost use Rattle.sql_value.specs.View.{plain_value};
 ghost use Rattle.schema_text.specs.Cursor.{seen_named};
 ghost use Rattle.schema_read.specs.Inserts as meant;

@@ -13,6 +13,3 @@ mod state;
 
 pub use dump::{Dump, ReadDumpFault, read_dump};
 pub use state::{Given, GivenList};
-
-#[cfg(test)]
-mod tests;

@@ -1,5 +1,5 @@
 //! What is read so far.
-ghost use Rattle.std.specs.Prelude.{◌≡◌, ◌<◌, ◌^◌, ◌++◌, ◌∷◌, [], false, true, OnOk, IfOk};
+ghost use Rattle.std.specs.Prelude.{◌≡◌, ◌<◌, ◌^◌, false, true, OnOk, IfOk};
 ghost use Rattle.sql_meaning.specs.Letters.{folded_bytes};
 ghost use Rattle.schema_model.specs.Schemas.{size, with_unread, is_taken};
 ghost use Rattle.schema_read.specs.States as meant;

@@ -1,5 +1,5 @@
 //! Columns of CREATE TABLE.
-ghost use Rattle.std.specs.Prelude.{◌≡◌, ◌≤◌, length, option_map, IfOk};
+ghost use Rattle.std.specs.Prelude.{◌≡◌, ◌≤◌, length, IfOk};
 ghost use Rattle.schema_text.specs.Heads.{or_else};
 ghost use Rattle.schema_text.specs.ColumnTexts as meant;
 

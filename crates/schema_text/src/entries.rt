@@ -1,5 +1,5 @@
 //! Entries of the lists of columns in keys and indexes.
-ghost use Rattle.std.specs.Prelude.{◌≡◌, ◌+◌, ◌<◌, ◌==◌, ◌&&◌, map, option_map, length, ◌≤◌, IfOk};
+ghost use Rattle.std.specs.Prelude.{◌≡◌, ◌+◌, ◌<◌, ◌==◌, ◌&&◌, map, length, ◌≤◌, IfOk};
 ghost use Rattle.schema_text.specs.Cursor.{seen_named};
 ghost use Rattle.schema_text.specs.Entries as meant;
 

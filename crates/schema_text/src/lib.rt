@@ -18,6 +18,3 @@ pub use heads::{IndexHead, create_index_head, create_table_head, create_unread_h
 pub use keys::{Key, KeyList, KeyMark, behind_name, is_constraint, read_keys};
 pub use table_texts::{TableText, read_table};
 pub use words::{is_mark, is_name, is_word};
-
-#[cfg(test)]
-mod tests;

@@ -15,7 +15,7 @@ use Rattle.schema_model.specs.Schemas.{Schema}
 use Rattle.sql_bound.specs.Fits.{Fits, IsSound, StaysLeft, width}
 use Rattle.sql_names.specs.Faults.{first_failing}
 use Rattle.sql_names.specs.Scopes.{Scope, IsScope}
-use Rattle.sql_names.specs.Names.{is_alias}
+use Rattle.sql_meaning.specs.OrderState.{is_alias}
 use Rattle.sql_names.specs.Binding.{bound}
 use Rattle.sql_bind.specs.Clauses.{sources_of, entries_of, filter_of, keys_of, changes_rows}
 use Rattle.sql_bind.specs.Sources.{scope_of, named_item, from_checks}

@@ -23,7 +23,8 @@ use Rattle.sql_meaning.specs.Items.{FitsExprs}
 use Rattle.sql_bound.specs.Fits.{IsSound, AllNamesExist}
 use Rattle.sql_names.specs.Scopes.{Scope, IsScope, table_at}
 use Rattle.sql_names.specs.Scopes as scopes
-use Rattle.sql_names.specs.Names.{is_alias, item_named}
+use Rattle.sql_meaning.specs.OrderState.{is_alias}
+use Rattle.sql_names.specs.Names.{item_named}
 use Rattle.sql_names.specs.Binding.{bound}
 use Rattle.sql_names.proofs.Sound.{bound_sound}
 use Rattle.sql_names.proofs.Tables.{position_within}

@@ -7,7 +7,7 @@ use Rattle.sql_meaning.specs.Expressions.{BExpr, BExprs, Lit, Param, Column, Row
 use Rattle.sql_meaning.specs.Expressions.{Cmp, OneOf, IsNull, Not, All, Any, Nil, More}
 use Rattle.sql_meaning.specs.Statements.{Bound, exprs_of}
 use Rattle.sql_names.specs.Scopes.{Scope}
-use Rattle.sql_names.specs.Names.{is_alias}
+use Rattle.sql_meaning.specs.OrderState.{is_alias}
 use Rattle.sql_bind.specs.Results.{width_at, alias_at}
 
 -- whether an expression names a column of an item

@@ -20,7 +20,7 @@ use indexmap::IndexMap;
 use sql_bound::{BExpr, BKey, place_expr};
 use sql_names::{BindFault, Scope, bind_collation, bind_expr, collation_of};
 use sql_tree::{Expr, Key, Lit};
-use sql_value::{Memory, fold, fold_byte};
+use sql_value::{Memory, fold, fold_byte, push};
 use std::alloc::Global;
 
 /// How a key is written.
@@ -237,15 +237,6 @@ fn bind_key<'a>(
         coll: collation_of(scope, expr),
         desc: key.desc,
     })
-}
-
-fn push<'a>(list: &mut Vec<BKey<'a>>, key: BKey<'a>) -> Result<(), Memory>
-    ensures { OnOk result (list.new.items ≡ list.old.items ++ key.entry ∷ []) }
-{
-    match list.push(key) {
-        Ok(()) => Ok(()),
-        Err(_) => Err(Memory),
-    }
 }
 
 /// The keys of ORDER BY.

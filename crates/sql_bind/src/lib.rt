@@ -7,11 +7,7 @@ mod conditions;
 mod keys;
 mod needs;
 mod parts;
-mod placing;
 mod results;
 mod sources;
 
 pub use binding::bind;
-
-#[cfg(test)]
-mod tests;

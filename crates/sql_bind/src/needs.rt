@@ -11,14 +11,14 @@ ghost use Rattle.sql_bind.specs.Parts.{exprs_of_parts};
 ghost use Rattle.sql_bind.specs.Views.{results_seen};
 
 use crate::parts::Parts;
-use crate::placing::place_slice;
 use crate::results::Column;
 use bumpalo::Bump;
 use bumpalo::collections::into_bump_slice;
 use schema_model::Table;
 use sql_bound::{BExpr, BExprs, BKey, Conjunct};
 use sql_names::Scope;
-use sql_value::Memory;
+use sql_tree::place_slice;
+use sql_value::{Memory, push};
 use std::alloc::Global;
 
 /// Marks the columns of an item that an expression names.
@@ -93,15 +93,6 @@ fn mark_keys(marks: &mut [bool], item: u32, keys: &[BKey])
 {
     for key in keys {
         mark(marks, item, key.expr);
-    }
-}
-
-fn push(list: &mut Vec<u32>, number: u32) -> Result<(), Memory>
-    ensures { OnOk result (list.new.items ≡ list.old.items ++ number ∷ []) }
-{
-    match list.push(number) {
-        Ok(()) => Ok(()),
-        Err(_) => Err(Memory),
     }
 }
 

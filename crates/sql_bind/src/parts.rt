@@ -1,6 +1,5 @@
 //! What stays of a statement's clauses, in the arena.
 ghost use Rattle.std.specs.Prelude.{◌≡◌, map, IfOk, option_map};
-ghost use Rattle.std.specs.List.{range_with_len};
 ghost use Rattle.sql_tree.specs.Statements.{statement_tree};
 ghost use Rattle.sql_bound.specs.Expressions.{expr_of};
 ghost use Rattle.sql_bound.specs.Statements.{item_of, bound_of, needs_of};
@@ -10,14 +9,13 @@ ghost use Rattle.sql_bind.specs.Views.{named_of, results_seen};
 
 use crate::clauses::{changes_rows, limit_of, offset_of};
 use crate::needs::bind_needs;
-use crate::placing::place_slice;
 use crate::results::Column;
 use crate::sources::Named;
 use bumpalo::Bump;
 use bumpalo::collections::into_bump_slice;
 use sql_bound::{BExpr, BExprs, BItem, BKey, Bound, Conjunct};
 use sql_names::Scope;
-use sql_tree::Stmt;
+use sql_tree::{Stmt, place_slice};
 use sql_value::Memory;
 use std::alloc::Global;
 

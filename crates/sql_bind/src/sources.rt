@@ -1,5 +1,5 @@
 //! FROM: the tables are looked up, and then their names.
-ghost use Rattle.std.specs.Prelude.{◌≡◌, ◌<◌, ◌≤◌, ◌++◌, ◌∷◌, [], length, map, flat_map, IfOk, OnOk};
+ghost use Rattle.std.specs.Prelude.{◌<◌, ◌≤◌, ◌∷◌, [], length, map, flat_map, IfOk};
 ghost use Rattle.std.specs.List.{AllByRecursion};
 ghost use Rattle.sql_meaning.specs.Letters.{folded_bytes};
 ghost use Rattle.sql_tree.specs.Statements.{source_tree};
@@ -7,14 +7,14 @@ ghost use Rattle.schema_model.specs.Schemas.{found_table};
 ghost use Rattle.sql_names.specs.Faults.{Answers};
 ghost use Rattle.sql_bind.specs.Sources as meant;
 ghost use Rattle.sql_bind.specs.Sources.{table_fault, table_checks, name_checks, named_item};
-ghost use Rattle.sql_bind.specs.Sources.{scope_from, known_as};
+ghost use Rattle.sql_bind.specs.Sources.{scope_from};
 ghost use Rattle.sql_bind.specs.Views.{named_of};
 
 use schema_model::{Found, Schema, find_table};
 use sql_bound::BItem;
 use sql_names::{BindFault, Scope};
 use sql_tree::Source;
-use sql_value::{Bytes, Memory, fold};
+use sql_value::{Bytes, Memory, fold, push};
 use std::alloc::Global;
 
 /// An item of FROM, and the name that the other clauses know it by.
@@ -60,15 +60,6 @@ fn find_item<'a>(
             left: false,
         },
     })
-}
-
-fn push<'a>(list: &mut Vec<Named<'a>>, named: Named<'a>) -> Result<(), Memory>
-    ensures { OnOk result (list.new.items ≡ list.old.items ++ named.entry ∷ []) }
-{
-    match list.push(named) {
-        Ok(()) => Ok(()),
-        Err(_) => Err(Memory),
-    }
 }
 
 /// The items of FROM, whose tables are looked up in order.

@@ -21,6 +21,3 @@ pub use placed::{no_bit_is_no_item, with_item};
 pub use placing::{place_expr, place_list};
 pub use serving::{first_at, may_derive, may_serve};
 pub use statement::{BItem, BKey, Bound, Conjunct, KeyExpr, added_indexes_keep_fits};
-
-#[cfg(test)]
-mod tests;

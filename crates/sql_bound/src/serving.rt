@@ -1,5 +1,5 @@
 //! Which conjunct may serve which item, and where a conjunct is known.
-ghost use Rattle.std.specs.Prelude.{◌≡◌, ◌<◌, ℕ, List, length, slice_get, IsSomeAnd, OnSome};
+ghost use Rattle.std.specs.Prelude.{◌≡◌, ◌<◌, ℕ, List, length, slice_get, IsSomeAnd};
 ghost use Rattle.sql_meaning.specs.Conjuncts as meant;
 ghost use Rattle.sql_meaning.specs.Expressions.{names, all_names};
 ghost use Rattle.sql_bound.specs.Expressions.{expr_of, members_of};

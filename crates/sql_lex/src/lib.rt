@@ -21,6 +21,3 @@ pub use sql_tokens::{
     Symbol, Terminal, Token, TokenKind, Tokens, lex, terminal_at, token_text, token_value,
 };
 pub use statement_runs::{Span, Spans, run_tokens, statements};
-
-#[cfg(test)]
-mod tests;

@@ -1,5 +1,5 @@
 //! Cuts tokens into statements.
-ghost use Rattle.std.specs.Prelude.{◌≡◌, ◌+◌, ◌<◌, ◌≤◌, ◌^◌, ◌++◌, length, map, IsTrue, IfOk};
+ghost use Rattle.std.specs.Prelude.{◌≡◌, ◌+◌, ◌<◌, ◌≤◌, ◌^◌, ◌++◌, length, map, IfOk};
 ghost use Rattle.std.specs.List.{prefix_len};
 ghost use Rattle.sql_tokens.specs.Terminals.{terminal_of};
 ghost use Rattle.sql_lex.specs.Statements.{begins_trigger, ends_trigger, trigger_len, is_inner};

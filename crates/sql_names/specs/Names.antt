@@ -7,6 +7,7 @@ use Rattle.std.specs.List.{filter_map}
 use Rattle.sql_meaning.specs.Letters.{folded_bytes}
 use Rattle.sql_meaning.specs.Values.{Null, Int}
 use Rattle.sql_meaning.specs.Expressions.{BExpr, Lit, Column, Rowid}
+use Rattle.sql_meaning.specs.OrderState.{is_alias}
 use Rattle.sql_meaning.specs.Statements.{numbers_from}
 use Rattle.schema_model.specs.Names.{is_name, has_name}
 use Rattle.schema_model.specs.Schemas.{found_column}
@@ -20,10 +21,6 @@ use Rattle.sql_names.specs.declared.faults.BindFault.TheVariants.{NoSuchColumn, 
 -- one of the three names of the rowid
 abbrev pub is_rowid_name : List ℕ → Bool
 is_rowid_name lower = has_name lower (codes "rowid" ∷ codes "oid" ∷ codes "_rowid_" ∷ [])
-
-abbrev pub is_alias : Option ℕ → ℕ → Bool
-is_alias None column = false
-is_alias (Some alias) column = column == alias
 
 -- the column that is an alias of the rowid means the rowid
 abbrev pub column_expr : Option ℕ → ℕ → ℕ → BExpr

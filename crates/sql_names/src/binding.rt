@@ -1,5 +1,5 @@
 //! Expressions with their names bound.
-ghost use Rattle.std.specs.Prelude.{◌≡◌, ◌++◌, ◌∷◌, [], map, IfOk, OnOk};
+ghost use Rattle.std.specs.Prelude.{◌≡◌, ◌∷◌, [], map, IfOk};
 ghost use Rattle.sql_tree.specs.Trees.{tree_of};
 ghost use Rattle.sql_meaning.specs.Expressions as plain;
 ghost use Rattle.sql_bound.specs.Expressions.{expr_of, exprs, plain_op};
@@ -15,7 +15,7 @@ use crate::{BindFault, Scope};
 use bumpalo::Bump;
 use sql_bound::BExpr;
 use sql_tree::{Expr, Exprs, Op};
-use sql_value::{Memory, conversions};
+use sql_value::{Memory, conversions, push};
 use std::alloc::Global;
 
 /// A comparison, with the conversions and the collation that its sides ask for.
@@ -84,15 +84,6 @@ fn between<'a>(
         sql_bound::not(arena, both)
     } else {
         Ok(both)
-    }
-}
-
-fn push<'a>(members: &mut Vec<BExpr<'a>>, member: BExpr<'a>) -> Result<(), Memory>
-    ensures { OnOk result (members.new.items ≡ members.old.items ++ member.entry ∷ []) }
-{
-    match members.push(member) {
-        Ok(()) => Ok(()),
-        Err(_) => Err(Memory),
     }
 }
 

@@ -1,5 +1,5 @@
 //! Which conversions and which collation a comparison has.
-ghost use Rattle.std.specs.Prelude.{◌≡◌, option_map, IfOk, ◌∷◌, []};
+ghost use Rattle.std.specs.Prelude.{◌≡◌, option_map, ◌∷◌, []};
 ghost use Rattle.sql_value.specs.View.{plain_affinity, plain_collation};
 ghost use Rattle.sql_meaning.specs.Items.{table_column};
 ghost use Rattle.sql_meaning.specs.Schemas.{column_or};

@@ -12,6 +12,3 @@ pub use collating::{bind_collation, collation_of};
 pub use faults::BindFault;
 pub use names::{bind_name, column_expr, named_in};
 pub use scope::Scope;
-
-#[cfg(test)]
-mod tests;

@@ -6,8 +6,6 @@ mod numbers;
 mod parameters;
 mod refusals;
 mod spelled;
-#[cfg(test)]
-mod tests;
 mod token_lexemes;
 
 pub use laws::{at_most_one_tree, spelled_where_read};

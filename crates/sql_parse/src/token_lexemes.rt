@@ -1,7 +1,7 @@
 //! Each token as a lexeme.
-ghost use Rattle.std.specs.Prelude.{◌≡◌, ◌++◌, ◌∷◌, [], IfOk, OnOk};
+ghost use Rattle.std.specs.Prelude.{◌≡◌, IfOk};
 ghost use Rattle.sql_read.specs.Lexemes.{seen, lexeme_of};
-ghost use Rattle.sql_parse.specs.TokenLexemes.{keyword_mark, symbol_mark, keyword_direction, mark_or};
+ghost use Rattle.sql_parse.specs.TokenLexemes.{keyword_mark, symbol_mark, keyword_direction};
 ghost use Rattle.sql_parse.specs.TokenLexemes.{keyword_lexeme, symbol_lexeme, number_lexeme};
 ghost use Rattle.sql_parse.specs.TokenLexemes.{lexeme_at, met_after, lexemes_of};
 ghost use Rattle.sql_tokens.specs.NumberValues.{number_of};
@@ -15,7 +15,7 @@ use sql_tokens::{
     Number, Symbol, Terminal, Token, terminal_at, token_number, token_text, token_value,
 };
 use sql_tree::place_bytes;
-use sql_value::{Keyword, Memory, is_reserved_keyword};
+use sql_value::{Keyword, Memory, is_reserved_keyword, push};
 use std::alloc::Global;
 
 #[tactic(auto, unfolding(crate::specs::TokenLexemes::keyword_mark))]
@@ -160,15 +160,6 @@ fn lexeme_read<'a>(
         },
         Terminal::Symbol(symbol) => Ok(symbol_lexeme(symbol)),
         Terminal::Bad => Ok(Lexeme::Other),
-    }
-}
-
-fn push<'a>(list: &mut Vec<Lexeme<'a>, &'a Bump>, lexeme: Lexeme<'a>) -> Result<(), Memory>
-    ensures { OnOk result (list.new.items ≡ list.old.items ++ lexeme.entry ∷ []) }
-{
-    match list.push(lexeme) {
-        Ok(()) => Ok(()),
-        Err(_) => Err(Memory),
     }
 }
 

@@ -1,5 +1,5 @@
 //! What stands at the front of the lexemes that are left.
-ghost use Rattle.std.specs.Prelude.{◌≡◌, [], ◌∷◌, length, MatchOption, option_map};
+ghost use Rattle.std.specs.Prelude.{◌≡◌, [], ◌∷◌, length, MatchOption};
 ghost use Rattle.sql_read.specs.Lexemes.{seen, lexeme_of};
 ghost use Rattle.sql_read.specs.Reading.{after, name_at, same_mark};
 

@@ -2,7 +2,7 @@
 //!
 //! `depth` bounds how often a level may stand within itself, in parentheses or behind NOT or `+`. Lists of
 //! members are loops.
-ghost use Rattle.std.specs.Prelude.{◌≡◌, ◌++◌, ◌∷◌, [], OnOk, map};
+ghost use Rattle.std.specs.Prelude.{[], map};
 ghost use Rattle.sql_tree.specs.Trees.{tree_of};
 ghost use Rattle.sql_read.specs.Lexemes.{seen};
 ghost use Rattle.sql_read.specs.Reading.{Gives, after, list_at};
@@ -16,19 +16,10 @@ use crate::leaf::{Read, collated, leaf, number};
 use crate::lexeme::{Mark, ReadFault};
 use bumpalo::Bump;
 use sql_tree::{Expr, Lit, Op};
+use sql_value::push;
 use std::alloc::Global;
 
 type ReadList<'a> = Result<(Vec<Expr<'a>>, Left<'a>), ReadFault>;
-
-fn push<'a>(members: &mut Vec<Expr<'a>>, member: Expr<'a>) -> Result<(), ReadFault>
-    ensures ok { OnOk result (members.new.items ≡ members.old.items ++ member.entry ∷ []) }
-    ensures memory { result ≡ Err ReadFault.Syntax → ⊥ }
-{
-    match members.push(member) {
-        Ok(()) => Ok(()),
-        Err(_) => Err(ReadFault::Memory),
-    }
-}
 
 #[cycle(descent)]
 #[tactic(auto, unfolding(crate::specs::Expressions::below))]

@@ -1,6 +1,5 @@
 //! The result list: expressions, their aliases and stars.
-ghost use Rattle.std.specs.Prelude.{◌≡◌, ◌++◌, ◌∷◌, [], MatchOption, OnOk, option_map, map};
-ghost use Rattle.sql_tree.specs.Trees.{tree_of};
+ghost use Rattle.std.specs.Prelude.{◌≡◌, MatchOption, option_map, map};
 ghost use Rattle.sql_tree.specs.Statements.{item_tree};
 ghost use Rattle.sql_read.specs.Lexemes.{seen};
 ghost use Rattle.sql_read.specs.Reading.{Gives};
@@ -13,6 +12,7 @@ use crate::descent::expr;
 use crate::lexeme::{Lexeme, Mark, ReadFault};
 use bumpalo::Bump;
 use sql_tree::{Item, place_expr};
+use sql_value::push;
 use std::alloc::Global;
 
 #[tactic(auto, unfolding(crate::specs::Parts::label_at))]
@@ -93,16 +93,6 @@ fn item_read<'a>(
     match table_star(lexemes) {
         Some((table, rest)) => Ok((Item::TableStar(table), rest)),
         None => value_item(alloc, arena, depth, lexemes),
-    }
-}
-
-fn push<'a>(items: &mut Vec<Item<'a>>, item: Item<'a>) -> Result<(), ReadFault>
-    ensures ok { OnOk result (items.new.items ≡ items.old.items ++ item.entry ∷ []) }
-    ensures memory { result ≡ Err ReadFault.Syntax → ⊥ }
-{
-    match items.push(item) {
-        Ok(()) => Ok(()),
-        Err(_) => Err(ReadFault::Memory),
     }
 }
 

@@ -1,5 +1,5 @@
 //! ORDER BY, LIMIT and OFFSET.
-ghost use Rattle.std.specs.Prelude.{◌≡◌, ◌++◌, ◌∷◌, [], MatchOption, OnOk, map};
+ghost use Rattle.std.specs.Prelude.{◌≡◌, MatchOption, map};
 ghost use Rattle.sql_tree.specs.Statements.{key_tree};
 ghost use Rattle.sql_read.specs.declared.lexeme.Mark.TheVariants as mark;
 ghost use Rattle.sql_read.specs.Lexemes.{seen};
@@ -14,6 +14,7 @@ use crate::leaf::signed_number;
 use crate::lexeme::{Direction, Lexeme, Mark, ReadFault};
 use bumpalo::Bump;
 use sql_tree::{Cut, Key, place_expr};
+use sql_value::push;
 use std::alloc::Global;
 
 /// Whether DESC stands here, and the lexemes behind ASC or DESC.
@@ -47,16 +48,6 @@ fn key_read<'a>(
         },
         rest,
     ))
-}
-
-fn push<'a>(keys: &mut Vec<Key<'a>>, key: Key<'a>) -> Result<(), ReadFault>
-    ensures ok { OnOk result (keys.new.items ≡ keys.old.items ++ key.entry ∷ []) }
-    ensures memory { result ≡ Err ReadFault.Syntax → ⊥ }
-{
-    match keys.push(key) {
-        Ok(()) => Ok(()),
-        Err(_) => Err(ReadFault::Memory),
-    }
 }
 
 fn key_list<'a>(

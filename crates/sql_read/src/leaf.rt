@@ -1,5 +1,5 @@
 //! Expressions that hold no other: constants, parameters, names.
-ghost use Rattle.std.specs.Prelude.{◌≡◌, option_map};
+ghost use Rattle.std.specs.Prelude.{◌≡◌};
 ghost use Rattle.sql_tree.specs.Trees.{tree_of};
 ghost use Rattle.sql_read.specs.Lexemes.{seen};
 ghost use Rattle.sql_read.specs.Reading.{Gives};

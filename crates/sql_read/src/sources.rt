@@ -1,5 +1,5 @@
 //! The sources of a statement, and their joins.
-ghost use Rattle.std.specs.Prelude.{◌≡◌, ◌++◌, ◌∷◌, [], MatchOption, OnOk, option_map, map};
+ghost use Rattle.std.specs.Prelude.{◌≡◌, MatchOption, option_map, map};
 ghost use Rattle.sql_tree.specs.Trees.{tree_of};
 ghost use Rattle.sql_tree.specs.Statements.{source_tree};
 ghost use Rattle.sql_read.specs.Lexemes.{seen};
@@ -14,6 +14,7 @@ use crate::items::alias;
 use crate::lexeme::{Mark, ReadFault};
 use bumpalo::Bump;
 use sql_tree::{Expr, Source, place_expr};
+use sql_value::push;
 use std::alloc::Global;
 
 /// A source, and the lexemes behind it.
@@ -118,16 +119,6 @@ fn joins<'a>(lexemes: Left<'a>) -> Option<Left<'a>>
     match after_mark(Mark::Join, lexemes) {
         Some(_) => Some(lexemes),
         None => None,
-    }
-}
-
-fn push<'a>(sources: &mut Vec<Source<'a>>, source: Source<'a>) -> Result<(), ReadFault>
-    ensures ok { OnOk result (sources.new.items ≡ sources.old.items ++ source.entry ∷ []) }
-    ensures memory { result ≡ Err ReadFault.Syntax → ⊥ }
-{
-    match sources.push(source) {
-        Ok(()) => Ok(()),
-        Err(_) => Err(ReadFault::Memory),
     }
 }
 

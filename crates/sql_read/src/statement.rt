@@ -1,5 +1,5 @@
 //! Whole statements: SELECT, UPDATE, DELETE.
-ghost use Rattle.std.specs.Prelude.{◌≡◌, ◌++◌, ◌∷◌, [], IfOk, OnOk, map};
+ghost use Rattle.std.specs.Prelude.{◌≡◌, map};
 ghost use Rattle.sql_tree.specs.Statements.{item_tree, select_tree, update_tree, delete_tree, statement_tree, set_tree};
 ghost use Rattle.sql_read.specs.Lexemes.{seen};
 ghost use Rattle.sql_read.specs.Reading.{Gives};
@@ -15,19 +15,9 @@ use crate::keys::{cuts, keys};
 use crate::lexeme::{Lexeme, Mark, ReadFault};
 use crate::sources::{condition, source_read, sources};
 use bumpalo::Bump;
-use sql_tree::{Delete, Expr, Item, Select, Stmt, Update, place_expr};
-use sql_value::Memory;
+use sql_tree::{Delete, Expr, Item, Select, Stmt, Update, place_expr, place_slice};
+use sql_value::push;
 use std::alloc::Global;
-
-/// The list in the arena.
-fn place_slice<'a, T: Copy>(arena: &'a Bump, list: &[T]) -> Result<&'a [T], Memory>
-    ensures { IfOk result (λ place. place.now ≡ list.now) }
-{
-    match arena.try_alloc_slice_copy(list) {
-        Ok(place) => Ok(place),
-        Err(_) => Err(Memory),
-    }
-}
 
 /// What follows FROM.
 #[tactic(auto, unfolding(crate::specs::Statements::from_at))]
@@ -106,19 +96,6 @@ fn set_read<'a>(alloc: Global, arena: &'a Bump, depth: usize, lexemes: Left<'a>)
             Ok(((column, place_expr(arena, value)?), rest))
         }
         None => Err(ReadFault::Syntax),
-    }
-}
-
-fn push<'a>(
-    sets: &mut Vec<(&'a [u8], &'a Expr<'a>)>,
-    set: (&'a [u8], &'a Expr<'a>),
-) -> Result<(), ReadFault>
-    ensures ok { OnOk result (sets.new.items ≡ sets.old.items ++ set.entry ∷ []) }
-    ensures memory { result ≡ Err ReadFault.Syntax → ⊥ }
-{
-    match sets.push(set) {
-        Ok(()) => Ok(()),
-        Err(_) => Err(ReadFault::Memory),
     }
 }
 

@@ -19,6 +19,3 @@ pub use symbols::{Symbol, find_symbol};
 pub use terminal::{Terminal, terminal_at, token_text};
 pub use token::{Token, TokenKind, Tokens};
 pub use values::token_value;
-
-#[cfg(test)]
-mod tests;

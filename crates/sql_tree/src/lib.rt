@@ -8,5 +8,5 @@ mod statement;
 
 pub use expression::{Expr, Exprs, Lit, Op};
 pub use nodes::{all, any, between, cmp, collate, is_null, name, not, one_of, plus};
-pub use placing::{place_bytes, place_expr, place_list};
+pub use placing::{place_bytes, place_expr, place_list, place_slice};
 pub use statement::{Cut, Delete, Item, Key, Select, Source, Stmt, Update};

@@ -16,14 +16,21 @@ pub fn place_expr<'a>(arena: &'a Bump, expr: Expr<'a>) -> Result<&'a Expr<'a>, M
     }
 }
 
+/// The list in the arena.
+pub fn place_slice<'a, T: Copy>(arena: &'a Bump, list: &[T]) -> Result<&'a [T], Memory>
+    ensures { IfOk result (λ place. place.now ≡ list.now) }
+{
+    match arena.try_alloc_slice_copy(list) {
+        Ok(place) => Ok(place),
+        Err(_) => Err(Memory),
+    }
+}
+
 /// The bytes in the arena.
 pub fn place_bytes<'a>(arena: &'a Bump, from: &[u8]) -> Result<&'a [u8], Memory>
     ensures { IfOk result (λ place. place.now ≡ from.now) }
 {
-    match arena.try_alloc_slice_copy(from) {
-        Ok(place) => Ok(place),
-        Err(_) => Err(Memory),
-    }
+    place_slice(arena, from)
 }
 
 /// Each expression in the arena, and then the list of their references.

@@ -1,7 +1,7 @@
 //! Lists that grow at their end, and want of memory.
 ghost use Rattle.std.specs.Prelude.{◌≡◌, [], ◌∷◌, ◌++◌, OnOk, OnErr, IfOk};
 
-use std::alloc::Global;
+use std::alloc::{Allocator, Global};
 use std::marker::Model;
 
 /// Want of memory: an allocation was refused, and the call changed nothing that it was lent.
@@ -74,5 +74,16 @@ impl Items<u8> {
             Ok(()) => Ok(()),
             Err(_) => Err(Memory),
         }
+    }
+}
+
+/// Appends one to a list of std's. After `Memory` the list is as it was.
+pub fn push<T: Copy, A: Allocator>(list: &mut Vec<T, A>, item: T) -> Result<(), Memory>
+    ensures ok { OnOk result (list.new.items ≡ list.old.items ++ item ∷ []) }
+    ensures err { OnErr result (list.new.items ≡ list.old.items) }
+{
+    match list.push(item) {
+        Ok(()) => Ok(()),
+        Err(_) => Err(Memory),
     }
 }

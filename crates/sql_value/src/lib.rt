@@ -16,7 +16,7 @@ mod values;
 pub use collations::collation_named;
 pub use condition::truth;
 pub use conversion::{apply, conversions, convert};
-pub use items::{Bytes, Items, Memory};
+pub use items::{Bytes, Items, Memory, push};
 pub use keywords::{Keyword, find_keyword, is_same_word, keyword_text};
 pub use names::{fold, fold_byte};
 pub use numbers::{last_digit_units, read_digits, read_number, with_sign};
@@ -24,6 +24,3 @@ pub use order::compare;
 pub use reserved::{is_reserved, is_reserved_keyword};
 pub use types::affinity_of;
 pub use values::{Affinity, Collation, Conversions, Value, Values};
-
-#[cfg(test)]
-mod tests;

@@ -21,5 +21,5 @@ loop-key-preserved c = record {
   made = part_pushed key_tree (sort_key c.args.scope.now (results_seen c.args.results.now))
       sort_key_of c.args.keys.now c.loop-key.key-index _ c.loop-key-test.true
       c.loop-key.list.items _ c.loop-key.invariant.made c.in_ok-bound.bound
-      c.in_ok-bound.ensures.1 c.push.new.list.items c.in_ok-push.ensures;
+      c.in_ok-bound.ensures.1 c.push.new.list.items c.in_ok-push.ensures.ok;
 }

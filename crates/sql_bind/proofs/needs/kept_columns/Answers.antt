@@ -1,5 +1,5 @@
 use Rattle.std.proofs.Common.{ℕ, not, ap, sym, ◌∙◌}
-use Rattle.sql_names.specs.Names.{is_alias}
+use Rattle.sql_meaning.specs.OrderState.{is_alias}
 use Rattle.sql_bind.specs.Results.{alias_at, alias_of}
 use Rattle.sql_bind.proofs.Ranges.{kept_yes, kept_no}
 use Rattle.sql_bind.proofs.needs.kept_columns.Goals as goal
@@ -15,7 +15,7 @@ loop-column-preserved c =
       | then-not-is_alias+in_ok-push w ↦
           rw w.list-is
           (kept_yes keeps column c.loop-column.list.items w.push.new.list.items
-          c.loop-column.invariant (tested ∙ ap not w.if-not-is_alias.true) w.in_ok-push.ensures)
+          c.loop-column.invariant (tested ∙ ap not w.if-not-is_alias.true) w.in_ok-push.ensures.ok)
       | else-not-is_alias w ↦
           rw w.list-is
           (kept_no keeps column c.loop-column.list.items c.loop-column.invariant

@@ -1,6 +1,6 @@
 use Rattle.std.proofs.Common.{◌≡◌, not, filter}
 use Rattle.std.specs.List.{range_with_len}
-use Rattle.sql_names.specs.Names.{is_alias}
+use Rattle.sql_meaning.specs.OrderState.{is_alias}
 use Rattle.sql_bind.specs.Results.{alias_at}
 use Rattle.sql_bind.proofs.needs.kept_columns.Given as goal
 

@@ -11,7 +11,7 @@ loop-number-preserved c =
       | then-marks-number+in_ok-push w ↦
           rw w.list-is
           (kept_yes keeps c.loop-number.number c.loop-number.list.items w.push.new.list.items
-          c.loop-number.invariant w.if-marks-number.true w.in_ok-push.ensures)
+          c.loop-number.invariant w.if-marks-number.true w.in_ok-push.ensures.ok)
       | else-marks-number w ↦
           rw w.list-is
           (kept_no keeps c.loop-number.number c.loop-number.list.items c.loop-number.invariant

@@ -21,8 +21,8 @@ loop-source-preserved c = record {
   made = part_pushed source_tree (named_item c.args.schema.now) named_of c.args.sources.now
       c.loop-source.source-index _ c.loop-source-test.true c.loop-source.list.items _
       c.loop-source.invariant.made c.in_ok-named.named c.in_ok-named.ensures.answer.1
-      c.push.new.list.items c.in_ok-push.ensures;
-  there = rw c.in_ok-push.ensures
+      c.push.new.list.items c.in_ok-push.ensures.ok;
+  there = rw c.in_ok-push.ensures.ok
       (all_push (λ n. n.item.table < length c.args.schema.now.tables) c.loop-source.list.items
       c.in_ok-named.named c.loop-source.invariant.there c.in_ok-named.ensures.there);
 }

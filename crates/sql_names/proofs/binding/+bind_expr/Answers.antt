@@ -29,7 +29,7 @@ bind_all-loop-member-preserved t c = record {
   meant = bound_turn c.args.scope.now c.args.list.now.members.now c.loop-member.member-index _
       c.loop-member.members.items c.in_ok-bound.bound c.push.new.members.items
       (all_bound c.args.scope.now (trees_of c.args.list.now)) c.loop-member-test.true
-      c.in_ok-push.ensures c.in_ok-bound.ensures.1 c.loop-member.invariant.meant;
+      c.in_ok-push.ensures.ok c.in_ok-bound.ensures.1 c.loop-member.invariant.meant;
 }
 
 pub bind_all-returns : goal.bind_all-returns

@@ -3,7 +3,7 @@ ghost use Rattle.std.specs.Prelude.{◌≡◌, ◌<◌, ◌^◌, false, true, If
 ghost use Rattle.sql_meaning.specs.Letters.{folded_bytes};
 ghost use Rattle.schema_model.specs.Schemas.{IsTable, IsIndexOf, is_taken, size};
 
-use crate::{
+use schema_model::{
     Column, Columns, Found, Index, IndexColumn, IndexColumns, Row, RowList, Schema, Table, Tables,
     add_index, add_table, add_unread, conforms, find_column, find_table, name_taken, print_create,
 };

@@ -4,9 +4,9 @@ ghost use Rattle.sql_bound.specs.Expressions.{expr_of};
 ghost use Rattle.sql_bound.specs.Environments.{HasRows};
 ghost use Rattle.std.specs.Prelude.{[]};
 
-use crate::{BExpr, Env, all, any, cmp, collate, eval, is_null, not, one_of, plus};
 use bumpalo::Bump;
 use schema_model::Tables;
+use sql_bound::{BExpr, Env, all, any, cmp, collate, eval, is_null, not, one_of, plus};
 use sql_tree::{Lit, Op};
 use sql_value::{Affinity, Collation, Memory, Value, Values, conversions};
 use std::alloc::Global;

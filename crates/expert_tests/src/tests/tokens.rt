@@ -1,5 +1,8 @@
 //! Tables of cases: the forms of tokens, bad tokens, and what tokens mean.
-use super::*;
+use sql_tokens::{
+    Number, Symbol, Terminal, Token, TokenKind, lex, signed_number, terminal_at, token_number,
+    token_value,
+};
 use sql_value::Value;
 use std::test::Fail;
 

@@ -1,7 +1,7 @@
 //! Statements that are read and that are refused, as this profile has them.
-use crate::{ParseFault, parse};
 use bumpalo::Bump;
 use sql_lex::lex;
+use sql_parse::{ParseFault, parse};
 use sql_tree::{Cut, Stmt};
 use sql_value::{Bytes, Memory};
 use std::alloc::Global;

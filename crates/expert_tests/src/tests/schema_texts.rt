@@ -1,5 +1,5 @@
 //! Statements, and what is read of them.
-use super::*;
+use schema_text::{create_index_head, create_table_head, create_unread_head, read_table};
 use sql_tokens::{Token, lex, token_text};
 use std::test::Fail;
 

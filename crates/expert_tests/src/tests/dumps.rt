@@ -1,6 +1,6 @@
 //! Dumps, and what is read of them.
-use super::*;
 use schema_model::{Column, Index, Row, Schema, Table, conforms};
+use schema_read::{Dump, Given, read_dump};
 use sql_value::{Affinity, Bytes, Collation, Memory, Value};
 use std::alloc::Global;
 use std::test::Fail;

@@ -1,8 +1,8 @@
 //! The top call over files and sinks in memory.
 ghost use Rattle.std.specs.Prelude.{◌≤◌};
 
-use crate::expert;
 use expert_io::{Calls, Files, MemoryShelf, MemorySink, Words};
+use expert_main::expert;
 use sql_value::{Bytes, Memory};
 use std::alloc::Global;
 use std::test::Fail;

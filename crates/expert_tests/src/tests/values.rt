@@ -1,5 +1,5 @@
 //! Whether the definitions say what was meant: values worked out elsewhere, and calls that succeed.
-use crate::{
+use sql_value::{
     Affinity, Bytes, Collation, Keyword, Memory, Value, Values, affinity_of, apply,
     collation_named, compare, conversions, convert, find_keyword, fold, fold_byte, is_reserved,
     is_reserved_keyword, is_same_word, keyword_text, last_digit_units, read_digits, read_number,
