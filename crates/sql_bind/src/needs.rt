@@ -3,7 +3,7 @@ ghost use Rattle.std.specs.Prelude.{◌≡◌, ◌<◌, ◌++◌, ◌∷◌, ◌
 ghost use Rattle.std.specs.List.{list_any, range_with_len};
 ghost use Rattle.sql_bound.specs.Expressions.{expr_of, members_of};
 ghost use Rattle.sql_bound.specs.Statements.{conjunct_of, sort_key_of};
-ghost use Rattle.sql_names.specs.Names as meant;
+ghost use Rattle.sql_meaning.specs.OrderState as meant;
 ghost use Rattle.sql_bind.specs.Needs.{names_column, some_names_column, columns_kept};
 ghost use Rattle.sql_bind.specs.Needs.{columns_named, needed_of};
 ghost use Rattle.sql_bind.specs.Marks.{Marks, marked_numbers};

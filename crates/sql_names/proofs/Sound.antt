@@ -11,6 +11,7 @@ use Rattle.sql_meaning.specs.Statements.{table_of as number_of, numbers_from}
 use Rattle.sql_meaning.specs.Expressions.{BExpr, Lit, Column, Rowid}
 use Rattle.sql_meaning.specs.Letters.{folded_bytes}
 use Rattle.sql_meaning.specs.Values.{Null, Int}
+use Rattle.sql_meaning.specs.OrderState.{is_alias}
 use Rattle.sql_tree.specs.Trees as tree
 use Rattle.sql_tree.specs.Trees.{Tree, Trees}
 use Rattle.schema_model.specs.PlainSchemas.{plain_schema, plain_table, plain_column}
@@ -21,7 +22,7 @@ use Rattle.schema_model.specs.declared.tables.Table.{Table}
 use Rattle.sql_bound.specs.Fits.{IsSound, NamesExist, AllNamesExist, width}
 use Rattle.sql_names.specs.Scopes.{Scope, IsScope, table_of, table_at}
 use Rattle.sql_names.specs.Names.{Meaning, Means, Ambiguous, Unknown}
-use Rattle.sql_names.specs.Names.{is_alias, column_expr, column_in}
+use Rattle.sql_names.specs.Names.{column_expr, column_in}
 use Rattle.sql_names.specs.Names.{rowid_in, named_at, item_named, columns_named, among}
 use Rattle.sql_names.specs.Names.{constant, only_rowid, without_column, if_known}
 use Rattle.sql_names.specs.Names.{meant_expr, name_expr, is_rowid_name}

@@ -27,7 +27,7 @@ bind_all-loop-member-preserved t c = record {
       (first_failing (all_checks c.args.scope.now (trees_of c.args.list.now)))
       c.loop-member-test.true c.in_ok-bound.ensures.0 c.loop-member.invariant.checks;
   meant = bound_turn c.args.scope.now c.args.list.now.members.now c.loop-member.member-index _
-      c.loop-member.members.items c.in_ok-bound.bound c.push.new.members.items
+      c.loop-member.members.items c.in_ok-bound.bound c.push.new.list.items
       (all_bound c.args.scope.now (trees_of c.args.list.now)) c.loop-member-test.true
       c.in_ok-push.ensures.ok c.in_ok-bound.ensures.1 c.loop-member.invariant.meant;
 }
