@@ -10,7 +10,7 @@ ghost use Rattle.sql_read.specs.Statements.{items_at};
 use crate::cursor::{Left, after_mark, first, name};
 use crate::descent::expr;
 use crate::lexeme::{Lexeme, Mark, ReadFault};
-use crate::lists::{Member, comma_list};
+use crate::lists::{Member, separated_list};
 use bumpalo::Bump;
 use sql_tree::{Item, place_expr};
 use std::alloc::Global;
@@ -113,5 +113,6 @@ pub fn items<'a>(
     ensures { Gives (λ x. (map item_tree x.0.items, seen x.1.now)) result
         (items_at (expr_at (below depth)) (seen lexemes.now)) }
 {
-    comma_list(alloc, lexemes, |left| item_read(alloc, arena, depth, left))
+    let read = |left| item_read(alloc, arena, depth, left);
+    separated_list(alloc, Mark::Comma, lexemes, read)
 }

@@ -12,7 +12,7 @@ use crate::cursor::{Left, after_mark, first};
 use crate::descent::expr;
 use crate::leaf::signed_number;
 use crate::lexeme::{Direction, Lexeme, Mark, ReadFault};
-use crate::lists::{Member, comma_list};
+use crate::lists::{Member, separated_list};
 use bumpalo::Bump;
 use sql_tree::{Cut, Key, place_expr};
 use std::alloc::Global;
@@ -66,7 +66,8 @@ fn key_list<'a>(
         (list_at (key_at (expr_at (below depth))) (after mark.Comma)
         (key_at (expr_at (below depth))) (seen lexemes.now)) }
 {
-    comma_list(alloc, lexemes, |left| key_read(alloc, arena, depth, left))
+    let read = |left| key_read(alloc, arena, depth, left);
+    separated_list(alloc, Mark::Comma, lexemes, read)
 }
 
 /// The keys of ORDER BY, if it stands here.

@@ -1,6 +1,5 @@
 //! Lists of the grammar: a first member, and then further ones.
 ghost use Rattle.std.specs.Prelude.{map};
-ghost use Rattle.sql_read.specs.declared.lexeme.Mark.TheVariants as mark;
 ghost use Rattle.sql_read.specs.Lexemes.{seen};
 ghost use Rattle.sql_read.specs.Lists.{Reads, Finds};
 ghost use Rattle.sql_read.specs.Reading.{Gives, after, list_at};
@@ -53,9 +52,10 @@ where
     Ok((list, rest))
 }
 
-/// One member or more, with a comma between each two.
-pub fn comma_list<'a, T: Member, Read>(
+/// One member or more, with this mark between each two.
+pub fn separated_list<'a, T: Member, Read>(
     alloc: Global,
+    separator: Mark,
     lexemes: Left<'a>,
     read: Read,
 ) -> Result<(Vec<T>, Left<'a>), ReadFault>
@@ -64,13 +64,8 @@ where
     requires { Read.IsAlwaysCallable read }
     ensures { (reader : _) → Reads T.tree (Read.post read) reader →
         Gives (λ x. (map T.tree x.0.items, seen x.1.now)) result
-        (list_at reader (after mark.Comma) reader (seen lexemes.now)) }
+        (list_at reader (after separator) reader (seen lexemes.now)) }
 {
-    list_of(
-        alloc,
-        lexemes,
-        read,
-        |left| after_mark(Mark::Comma, left),
-        read,
-    )
+    let follows = |left| after_mark(separator, left);
+    list_of(alloc, lexemes, read, follows, read)
 }

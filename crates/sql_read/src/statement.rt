@@ -13,7 +13,7 @@ use crate::descent::expr;
 use crate::items::items;
 use crate::keys::{cuts, keys};
 use crate::lexeme::{Lexeme, Mark, ReadFault};
-use crate::lists::{Member, comma_list};
+use crate::lists::{Member, separated_list};
 use crate::sources::{condition, source_read, sources};
 use bumpalo::Bump;
 use sql_tree::{Delete, Expr, Item, Select, Stmt, Update, place_expr, place_slice};
@@ -116,7 +116,8 @@ fn sets<'a>(
     ensures { Gives (λ x. (map set_tree x.0.items, seen x.1.now)) result
         (sets_at (expr_at (below depth)) (seen lexemes.now)) }
 {
-    comma_list(alloc, lexemes, |left| set_read(alloc, arena, depth, left))
+    let read = |left| set_read(alloc, arena, depth, left);
+    separated_list(alloc, Mark::Comma, lexemes, read)
 }
 
 /// What follows UPDATE.
