@@ -4,3 +4,4 @@ pub mod Leaves
 pub mod Expressions
 pub mod Parts
 pub mod Statements
+pub mod Lists

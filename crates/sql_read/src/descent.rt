@@ -3,21 +3,27 @@
 //! `depth` bounds how often a level may stand within itself, in parentheses or behind NOT or `+`. Lists of
 //! members are loops.
 ghost use Rattle.std.specs.Prelude.{[], map};
-ghost use Rattle.sql_tree.specs.Trees.{tree_of};
+ghost use Rattle.sql_tree.specs.Trees.{Tree, tree_of};
 ghost use Rattle.sql_read.specs.Lexemes.{seen};
 ghost use Rattle.sql_read.specs.Reading.{Gives, after, list_at};
 ghost use Rattle.sql_read.specs.Expressions.{below, expr_at, and_at, not_at, test_at, tested_at, one_of_at};
 ghost use Rattle.sql_read.specs.Expressions.{between_at, entries_at, right_at, operand_at, primary_at, enclosed_at};
 ghost use Rattle.sql_read.specs.Expressions.{member_at, joint_mark};
 
-use crate::cursor::{Left, after_mark, count_left};
+use crate::cursor::{Left, after_mark};
 use crate::follow::{Follow, Joint, find_follow, mark_between};
 use crate::leaf::{Read, collated, leaf, number};
 use crate::lexeme::{Mark, ReadFault};
+use crate::lists::{Member, separated_list};
 use bumpalo::Bump;
 use sql_tree::{Expr, Lit, Op};
-use sql_value::push;
 use std::alloc::Global;
+
+impl Member for Expr<'_> {
+    ghost Plain = { Tree };
+
+    ghost tree = { tree_of };
+}
 
 type ReadList<'a> = Result<(Vec<Expr<'a>>, Left<'a>), ReadFault>;
 
@@ -287,20 +293,12 @@ fn members<'a>(
         (list_at (member_at (below depth) joint) (after (joint_mark joint))
         (member_at (below depth) joint) (seen lexemes.now)) }
 {
-    let mark = mark_between(joint);
-    let (member_read, mut rest) = member(alloc, arena, depth, joint, lexemes)?;
-    let mut members = Vec::new(alloc);
-    push(&mut members, member_read)?;
-    let most = count_left(rest);
-    'members: for _ in 0..most {
-        let Some(behind) = after_mark(mark, rest) else {
-            break;
-        };
-        let (next, left) = member(alloc, arena, depth, joint, behind)?;
-        push(&mut members, next)?;
-        rest = left;
-    }
-    Ok((members, rest))
+    // Within the cycle of the levels the check infers nothing of a closure, so this one says what it gives.
+    let read = |left| -> Read
+        ensures { Gives (λ x. (tree_of x.0, seen x.1.now)) result
+            (member_at (below depth) joint (seen left.now)) }
+    { member(alloc, arena, depth, joint, left) };
+    separated_list(alloc, mark_between(joint), lexemes, read)
 }
 
 /// The expression that the lexemes begin with, and those behind it.

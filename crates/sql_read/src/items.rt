@@ -1,18 +1,18 @@
 //! The result list: expressions, their aliases and stars.
 ghost use Rattle.std.specs.Prelude.{◌≡◌, MatchOption, option_map, map};
-ghost use Rattle.sql_tree.specs.Statements.{item_tree};
+ghost use Rattle.sql_tree.specs.Statements.{ItemTree, item_tree};
 ghost use Rattle.sql_read.specs.Lexemes.{seen};
 ghost use Rattle.sql_read.specs.Reading.{Gives};
 ghost use Rattle.sql_read.specs.Expressions.{below, expr_at};
 ghost use Rattle.sql_read.specs.Parts.{label_at, alias_at, table_star_at, value_item_at, item_at};
 ghost use Rattle.sql_read.specs.Statements.{items_at};
 
-use crate::cursor::{Left, after_mark, count_left, first, name};
+use crate::cursor::{Left, after_mark, first, name};
 use crate::descent::expr;
 use crate::lexeme::{Lexeme, Mark, ReadFault};
+use crate::lists::{Member, separated_list};
 use bumpalo::Bump;
 use sql_tree::{Item, place_expr};
-use sql_value::push;
 use std::alloc::Global;
 
 #[tactic(auto, unfolding(crate::specs::Parts::label_at))]
@@ -96,6 +96,12 @@ fn item_read<'a>(
     }
 }
 
+impl Member for Item<'_> {
+    ghost Plain = { ItemTree };
+
+    ghost tree = { item_tree };
+}
+
 /// The entries of the result list.
 #[tactic(auto, unfolding(crate::specs::Statements::items_at))]
 pub fn items<'a>(
@@ -107,17 +113,6 @@ pub fn items<'a>(
     ensures { Gives (λ x. (map item_tree x.0.items, seen x.1.now)) result
         (items_at (expr_at (below depth)) (seen lexemes.now)) }
 {
-    let (first_read, mut rest) = item_read(alloc, arena, depth, lexemes)?;
-    let mut list = Vec::new(alloc);
-    push(&mut list, first_read)?;
-    let most = count_left(rest);
-    'members: for _ in 0..most {
-        let Some(behind) = after_mark(Mark::Comma, rest) else {
-            break;
-        };
-        let (next, left) = item_read(alloc, arena, depth, behind)?;
-        push(&mut list, next)?;
-        rest = left;
-    }
-    Ok((list, rest))
+    let read = |left| item_read(alloc, arena, depth, left);
+    separated_list(alloc, Mark::Comma, lexemes, read)
 }

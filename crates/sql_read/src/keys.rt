@@ -1,6 +1,6 @@
 //! ORDER BY, LIMIT and OFFSET.
 ghost use Rattle.std.specs.Prelude.{◌≡◌, MatchOption, map};
-ghost use Rattle.sql_tree.specs.Statements.{key_tree};
+ghost use Rattle.sql_tree.specs.Statements.{KeyTree, key_tree};
 ghost use Rattle.sql_read.specs.declared.lexeme.Mark.TheVariants as mark;
 ghost use Rattle.sql_read.specs.Lexemes.{seen};
 ghost use Rattle.sql_read.specs.Reading.{Gives, after, list_at};
@@ -8,13 +8,13 @@ ghost use Rattle.sql_read.specs.Expressions.{below, expr_at};
 ghost use Rattle.sql_read.specs.Parts.{direction_at, key_at, keys_at, count_at, param_at, cut_at};
 ghost use Rattle.sql_read.specs.Parts.{second_cut_at, cuts_at};
 
-use crate::cursor::{Left, after_mark, count_left, first};
+use crate::cursor::{Left, after_mark, first};
 use crate::descent::expr;
 use crate::leaf::signed_number;
 use crate::lexeme::{Direction, Lexeme, Mark, ReadFault};
+use crate::lists::{Member, separated_list};
 use bumpalo::Bump;
 use sql_tree::{Cut, Key, place_expr};
-use sql_value::push;
 use std::alloc::Global;
 
 /// Whether DESC stands here, and the lexemes behind ASC or DESC.
@@ -50,6 +50,12 @@ fn key_read<'a>(
     ))
 }
 
+impl Member for Key<'_> {
+    ghost Plain = { KeyTree };
+
+    ghost tree = { key_tree };
+}
+
 fn key_list<'a>(
     alloc: Global,
     arena: &'a Bump,
@@ -60,19 +66,8 @@ fn key_list<'a>(
         (list_at (key_at (expr_at (below depth))) (after mark.Comma)
         (key_at (expr_at (below depth))) (seen lexemes.now)) }
 {
-    let (first_read, mut rest) = key_read(alloc, arena, depth, lexemes)?;
-    let mut list = Vec::new(alloc);
-    push(&mut list, first_read)?;
-    let most = count_left(rest);
-    'members: for _ in 0..most {
-        let Some(behind) = after_mark(Mark::Comma, rest) else {
-            break;
-        };
-        let (next, left) = key_read(alloc, arena, depth, behind)?;
-        push(&mut list, next)?;
-        rest = left;
-    }
-    Ok((list, rest))
+    let read = |left| key_read(alloc, arena, depth, left);
+    separated_list(alloc, Mark::Comma, lexemes, read)
 }
 
 /// The keys of ORDER BY, if it stands here.

@@ -8,6 +8,7 @@ mod items;
 mod keys;
 mod leaf;
 mod lexeme;
+mod lists;
 mod sources;
 mod statement;
 

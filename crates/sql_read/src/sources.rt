@@ -1,20 +1,20 @@
 //! The sources of a statement, and their joins.
 ghost use Rattle.std.specs.Prelude.{◌≡◌, MatchOption, option_map, map};
 ghost use Rattle.sql_tree.specs.Trees.{tree_of};
-ghost use Rattle.sql_tree.specs.Statements.{source_tree};
+ghost use Rattle.sql_tree.specs.Statements.{SourceTree, source_tree};
 ghost use Rattle.sql_read.specs.Lexemes.{seen};
 ghost use Rattle.sql_read.specs.Reading.{Gives};
 ghost use Rattle.sql_read.specs.Expressions.{below, expr_at};
 ghost use Rattle.sql_read.specs.Parts.{optional_at, source_at, joined_source_at, join_at, join_begins};
 ghost use Rattle.sql_read.specs.Statements.{sources_at};
 
-use crate::cursor::{Left, after_mark, count_left, name};
+use crate::cursor::{Left, after_mark, name};
 use crate::descent::expr;
 use crate::items::alias;
 use crate::lexeme::{Mark, ReadFault};
+use crate::lists::{Member, list_of};
 use bumpalo::Bump;
 use sql_tree::{Expr, Source, place_expr};
-use sql_value::push;
 use std::alloc::Global;
 
 /// A source, and the lexemes behind it.
@@ -122,6 +122,12 @@ fn joins<'a>(lexemes: Left<'a>) -> Option<Left<'a>>
     }
 }
 
+impl Member for Source<'_> {
+    ghost Plain = { SourceTree };
+
+    ghost tree = { source_tree };
+}
+
 /// The sources behind FROM.
 #[tactic(auto, unfolding(crate::specs::Statements::sources_at))]
 pub fn sources<'a>(
@@ -133,17 +139,11 @@ pub fn sources<'a>(
     ensures { Gives (λ x. (map source_tree x.0.items, seen x.1.now)) result
         (sources_at (expr_at (below depth)) (seen lexemes.now)) }
 {
-    let (first_read, mut rest) = source_read(false, lexemes)?;
-    let mut list = Vec::new(alloc);
-    push(&mut list, first_read)?;
-    let most = count_left(rest);
-    'members: for _ in 0..most {
-        let Some(behind) = joins(rest) else {
-            break;
-        };
-        let (next, left) = join_read(alloc, arena, depth, behind)?;
-        push(&mut list, next)?;
-        rest = left;
-    }
-    Ok((list, rest))
+    list_of(
+        alloc,
+        lexemes,
+        |left| source_read(false, left),
+        joins,
+        |left| join_read(alloc, arena, depth, left),
+    )
 }

@@ -1,6 +1,6 @@
 //! Whole statements: SELECT, UPDATE, DELETE.
 ghost use Rattle.std.specs.Prelude.{◌≡◌, map};
-ghost use Rattle.sql_tree.specs.Statements.{item_tree, select_tree, update_tree, delete_tree, statement_tree, set_tree};
+ghost use Rattle.sql_tree.specs.Statements.{item_tree, select_tree, update_tree, delete_tree, statement_tree, SetTree, set_tree};
 ghost use Rattle.sql_read.specs.Lexemes.{seen};
 ghost use Rattle.sql_read.specs.Reading.{Gives};
 ghost use Rattle.sql_read.specs.Expressions.{below, expr_at};
@@ -13,10 +13,10 @@ use crate::descent::expr;
 use crate::items::items;
 use crate::keys::{cuts, keys};
 use crate::lexeme::{Lexeme, Mark, ReadFault};
+use crate::lists::{Member, separated_list};
 use crate::sources::{condition, source_read, sources};
 use bumpalo::Bump;
 use sql_tree::{Delete, Expr, Item, Select, Stmt, Update, place_expr, place_slice};
-use sql_value::push;
 use std::alloc::Global;
 
 /// What follows FROM.
@@ -99,6 +99,12 @@ fn set_read<'a>(alloc: Global, arena: &'a Bump, depth: usize, lexemes: Left<'a>)
     }
 }
 
+impl<'a> Member for (&'a [u8], &'a Expr<'a>) {
+    ghost Plain = { SetTree };
+
+    ghost tree = { set_tree };
+}
+
 /// The columns that UPDATE sets.
 #[tactic(auto, unfolding(crate::specs::Statements::sets_at))]
 fn sets<'a>(
@@ -110,19 +116,8 @@ fn sets<'a>(
     ensures { Gives (λ x. (map set_tree x.0.items, seen x.1.now)) result
         (sets_at (expr_at (below depth)) (seen lexemes.now)) }
 {
-    let (first_read, mut rest) = set_read(alloc, arena, depth, lexemes)?;
-    let mut list = Vec::new(alloc);
-    push(&mut list, first_read)?;
-    let most = count_left(rest);
-    'members: for _ in 0..most {
-        let Some(behind) = after_mark(Mark::Comma, rest) else {
-            break;
-        };
-        let (next, left) = set_read(alloc, arena, depth, behind)?;
-        push(&mut list, next)?;
-        rest = left;
-    }
-    Ok((list, rest))
+    let read = |left| set_read(alloc, arena, depth, left);
+    separated_list(alloc, Mark::Comma, lexemes, read)
 }
 
 /// What follows UPDATE.
