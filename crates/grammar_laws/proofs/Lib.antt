@@ -12,3 +12,5 @@ pub mod Rows
 pub mod Froms
 pub mod Known
 pub mod LevelMarks
+pub mod Readable
+pub mod ReadableTokens

@@ -4,5 +4,5 @@
 mod laws;
 mod levels;
 
-pub use laws::spelled_runs_are_known;
+pub use laws::{spelled_runs_are_known, spelled_runs_are_refused_for_depth_alone};
 pub use levels::levels_split_at_one_place;
