@@ -132,10 +132,11 @@ fn reads_and_refuses(rt: HostRuntime) -> Result<(), Fail> {
     Ok(())
 }
 
-/// `a=1` within so many parentheses.
-fn nested(alloc: Global, depth: usize) -> Result<Bytes, Memory> {
+/// `a=1` within so many parentheses, each behind this text.
+fn nested(alloc: Global, front: &[u8], depth: usize) -> Result<Bytes, Memory> {
     let mut text = Bytes::copy(alloc, b"SELECT a FROM x1 WHERE ")?;
     for _ in 0..depth {
+        text.append(front)?;
         text.push(b'(')?;
     }
     text.append(b"a=1")?;
@@ -148,8 +149,13 @@ fn nested(alloc: Global, depth: usize) -> Result<Bytes, Memory> {
 #[test]
 fn nests_up_to_its_limit(rt: HostRuntime) -> Result<(), Fail> {
     let alloc = rt.alloc();
-    for (depth, want) in [(200, Outcome::Read), (201, Outcome::Deep)] {
-        let text = nested(alloc, depth)?;
+    for (front, depth, want) in [
+        (b"".as_slice(), 200, Outcome::Read),
+        (b"", 201, Outcome::Deep),
+        (b"a IN ", 200, Outcome::Read),
+        (b"a IN ", 201, Outcome::Deep),
+    ] {
+        let text = nested(alloc, front, depth)?;
         assert!(rt; becomes(alloc, text.as_slice()) == want);
     }
     Ok(())
