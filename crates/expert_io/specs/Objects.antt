@@ -1,6 +1,6 @@
 -- What the objects in memory are seen as.
-use Rattle.std.specs.Prelude.{ℕ, ◌+◌, ◌-◌, ◌^◌, ◌≡◌, ◌<◌, ◌⊎◌, min, List, length, None, Contains}
-use Rattle.expert_io.specs.Told.{File, file_of}
+use Rattle.std.specs.Prelude.{ℕ, ◌+◌, ◌-◌, ◌^◌, min, List, Contains}
+use Rattle.expert_io.specs.Told.{File}
 
 -- files in memory; `left` is what reads of the file that was opened last will still give, `calls`
 -- the calls so far

@@ -1,5 +1,5 @@
 -- What the program does over the files that a shelf tells.
-use Rattle.std.proofs.Common.{rules, ◌≡◌, ℕ, true, List, [], ◌∷◌, Option, None, Some, IfSome, IsSomeAnd, refl}
+use Rattle.std.proofs.Common.{rules, ◌≡◌, ℕ, true, List, [], ◌∷◌, Option, None, Some, IfSome, refl}
 use Rattle.std.specs.Str.{bytes_eq}
 use Rattle.std.proofs.lemmas.Slice.Eq.{bytes_eq-Decides}
 use Rattle.expert_io.specs.Told.{File, file_of}

@@ -1,5 +1,5 @@
 -- Why the program gives up, and the line that it leaves.
-use Rattle.std.specs.Prelude.{◌≡◌, ◌⊎◌, ◌==◌, ◌||◌, ℕ, Bool, List, [], None, Some, if◌then◌else◌}
+use Rattle.std.specs.Prelude.{◌≡◌, ◌⊎◌, ◌==◌, ◌||◌, ℕ, Bool, List, [], None, Some}
 use Rattle.std.specs.declared.option.Option.{Option}
 use Rattle.expert_main.specs.Lines.{usage_line, cannot_read_line, cannot_write_line, memory_line}
 use Rattle.expert_main.specs.Lines.{database_too_large_line, database_file_line}

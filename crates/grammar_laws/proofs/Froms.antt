@@ -16,8 +16,7 @@ use Rattle.sql_parse.specs.Parameters.{Met}
 use Rattle.sql_parse.specs.Statements.{IsSpelled}
 use Rattle.sql_parse.specs.Statements as s
 use Rattle.sql_parse.specs.TokenLexemes.{keyword_mark, lexeme_at, met_after, lexemes_from}
-use Rattle.grammar_laws.proofs.Scan.{Class, Kind, mark_class, lexeme_class, keyword_class}
-use Rattle.grammar_laws.proofs.Scan.{terminal_class}
+use Rattle.grammar_laws.proofs.Scan.{Class, mark_class, lexeme_class, keyword_class}
 use Rattle.grammar_laws.proofs.Scan as scan
 use Rattle.grammar_laws.proofs.Terminals.{keyword_is, same_class, means, class_means}
 use Rattle.grammar_laws.proofs.Places.{or_right}

@@ -9,7 +9,7 @@ use Rattle.sql_lex.specs.Looks.{is_name, is_free_word, is_literal, is_operand_en
 use Rattle.sql_lex.specs.OperatorPatterns.{fits_arithmetic}
 use Rattle.sql_lex.specs.Places.{place_of}
 use Rattle.sql_parse.specs.TokenLexemes.{symbol_mark}
-use Rattle.grammar_laws.proofs.Scan.{Class, Kind, Phase, may_come, phase_behind, stack_behind}
+use Rattle.grammar_laws.proofs.Scan.{Class, Kind, Phase, may_come, phase_behind}
 use Rattle.grammar_laws.proofs.Scan.{mark_class, symbol_class, terminal_class}
 use Rattle.grammar_laws.proofs.Scan as scan
 use Rattle.grammar_laws.proofs.Terminals.{symbol_is, operand_end_is, ends, means, class_means}

@@ -28,7 +28,6 @@ use Rattle.sql_lex.specs.Depth.{depth_of}
 use Rattle.sql_read.specs.declared.lexeme.Direction.{Direction}
 use Rattle.sql_read.specs.declared.lexeme.Mark.{Mark}
 use Rattle.sql_read.specs.declared.lexeme.Mark.TheVariants as mark
-use Rattle.sql_read.specs.Lexemes.{Lexeme}
 use Rattle.sql_read.specs.Lexemes as lexeme
 use Rattle.sql_parse.specs.declared.refusals.ParseFault.TheVariants as fault
 use Rattle.sql_parse.specs.Parameters.{Met, parameter_number, no_parameters}

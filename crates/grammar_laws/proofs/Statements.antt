@@ -16,7 +16,7 @@ use Rattle.sql_parse.specs.Statements.{Sources, Directed, SortKey, SortKeys, Cou
 use Rattle.sql_parse.specs.Statements.{PerhapsAll, IsSpelled}
 use Rattle.sql_parse.specs.Statements as s
 use Rattle.sql_parse.proofs.Complete.{parts}
-use Rattle.grammar_laws.proofs.Scan.{Kind, Phase, Takes, Before, Behind, mark_class, lexeme_class}
+use Rattle.grammar_laws.proofs.Scan.{Kind, Phase, Takes, Before, mark_class, lexeme_class}
 use Rattle.grammar_laws.proofs.Scan.{may_come, phase_behind, stack_behind}
 use Rattle.grammar_laws.proofs.Scan as scan
 use Rattle.grammar_laws.proofs.Expressions.{Goes, Rest, Start, behind_mark, expression}

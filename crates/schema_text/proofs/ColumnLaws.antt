@@ -1,5 +1,5 @@
 -- The columns of a table that is read: at most 2,000, of names that differ.
-use Rattle.std.proofs.Common.{◌≡◌, ℕ, zero, suc, ◌+◌, ◌≤◌, ◌<◌, ◌||◌, Bool, true, false, not, cond, nat_lt, nat_le, List, [], ◌∷◌, ◌++◌, length, map, position, Option, None, Some, is_some, option_and_then, refl, ap, sym, ◌∙◌, subst, arith}
+use Rattle.std.proofs.Common.{◌≡◌, ℕ, zero, suc, ◌+◌, ◌<◌, ◌||◌, Bool, true, false, not, cond, nat_lt, nat_le, List, [], ◌∷◌, ◌++◌, length, position, Option, None, Some, is_some, option_and_then, refl, ap, sym, ◌∙◌, subst, arith}
 use Rattle.std.specs.List.{list_any, position_or_len}
 use Rattle.std.proofs.lemmas.List.{map-append, append-nil, length_push, length-append}
 use Rattle.sql_meaning.specs.Letters.{folded_bytes}
@@ -10,7 +10,7 @@ use Rattle.schema_model.specs.declared.columns.Column.{Column}
 use Rattle.schema_model.proofs.NameKeys.{list_any-map}
 use Rattle.schema_model.proofs.Sound.{differ_between}
 use Rattle.schema_text.specs.TableFacts.{AreColumns}
-use Rattle.schema_model.specs.Columns.{rowid_column, as_rowid}
+use Rattle.schema_model.specs.Columns.{as_rowid}
 use Rattle.schema_model.proofs.RowidColumns.{length_kept}
 use Rattle.schema_text.specs.TableTexts.{with_alias}
 use Rattle.schema_text.specs.Keys.{is_constraint}

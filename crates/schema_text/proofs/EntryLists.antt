@@ -1,5 +1,5 @@
 -- Entries of a list, one by one.
-use Rattle.std.proofs.Common.{◌≡◌, ℕ, zero, suc, ◌+◌, ◌<◌, ◌==◌, ◌&&◌, Bool, true, false, List, [], ◌∷◌, ◌++◌, length, map, drop, get_or, Option, None, Some, option_map, refl, ap, sym, ◌∙◌, arith, Bor}
+use Rattle.std.proofs.Common.{◌≡◌, ℕ, zero, suc, ◌+◌, ◌<◌, ◌==◌, ◌&&◌, Bool, List, [], ◌∷◌, ◌++◌, length, map, drop, get_or, Option, None, Some, option_map, refl, ap, sym, ◌∙◌, arith, Bor}
 use Rattle.sql_tokens.specs.declared.token.Token.{Token}
 use Rattle.schema_text.specs.Lists.{with_first}
 use Rattle.schema_text.specs.Entries.{entry_of, entries_of, is_last}

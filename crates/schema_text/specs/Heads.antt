@@ -2,7 +2,7 @@
 use Rattle.std.specs.Prelude.{ℕ, Bool, true, false, codes, List, [], ◌∷◌, Option, None, Some, option_and_then, option_map}
 use Rattle.sql_tokens.specs.declared.token.Token.{Token}
 use Rattle.schema_text.specs.Cursor.{Named, after_word, past_temporary, past_if_not_exists, first_name, qualified_name}
-use Rattle.schema_text.specs.Groups.{Enclosed, first_enclosed}
+use Rattle.schema_text.specs.Groups.{first_enclosed}
 use Rattle.schema_text.specs.declared.heads.IndexHead as code
 
 abbrev pub or_else : {X : Type 0} → Option X → Option X → Option X

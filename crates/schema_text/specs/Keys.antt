@@ -13,7 +13,6 @@ use Rattle.schema_text.specs.Groups.{next_level, first_enclosed, parts_of}
 use Rattle.schema_text.specs.ColumnTexts.{column_rest}
 use Rattle.schema_text.specs.Entries.{begins_desc, entries_of, key_columns}
 use Rattle.schema_text.specs.declared.entries.EntryText.{EntryText}
-use Rattle.schema_text.specs.declared.entries.KeyColumn.{KeyColumn}
 use Rattle.schema_text.specs.declared.keys.Key.{Key}
 use Rattle.schema_text.specs.declared.keys.KeyMark.{KeyMark}
 use Rattle.schema_text.specs.declared.keys.KeyList as code

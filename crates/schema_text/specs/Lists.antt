@@ -1,5 +1,5 @@
 -- What each of a list gives, where none of them gives nothing.
-use Rattle.std.specs.Prelude.{List, [], ◌∷◌, Option, None, Some, option_map, option_and_then}
+use Rattle.std.specs.Prelude.{List, [], ◌∷◌, Option, None, Some, option_map}
 
 abbrev pub with_first : {X : Type 0} → Option X → Option (List X) → Option (List X)
 with_first None rest = None

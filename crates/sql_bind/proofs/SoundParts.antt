@@ -21,7 +21,7 @@ use Rattle.schema_model.specs.Schemas.{Schema, columns_of}
 use Rattle.schema_model.specs.declared.tables.Table.{Table}
 use Rattle.sql_meaning.specs.Items.{FitsExprs}
 use Rattle.sql_bound.specs.Fits.{IsSound, AllNamesExist}
-use Rattle.sql_names.specs.Scopes.{Scope, IsScope, table_at}
+use Rattle.sql_names.specs.Scopes.{Scope, IsScope}
 use Rattle.sql_names.specs.Scopes as scopes
 use Rattle.sql_meaning.specs.OrderState.{is_alias}
 use Rattle.sql_names.specs.Names.{item_named}

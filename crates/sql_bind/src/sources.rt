@@ -14,7 +14,7 @@ use schema_model::{Found, Schema, find_table};
 use sql_bound::BItem;
 use sql_names::{BindFault, Scope};
 use sql_tree::Source;
-use sql_value::{Bytes, Memory, fold, push};
+use sql_value::{Bytes, fold, push};
 use std::alloc::Global;
 
 /// An item of FROM, and the name that the other clauses know it by.

@@ -18,7 +18,7 @@ use Rattle.sql_read.specs.Parts.{Cuts, optional_at, label_at, alias_at, table_st
 use Rattle.sql_read.specs.Statements.{items_at, sources_at, sets_at, from_at, past_all, select_at, update_at, delete_at, statement_at}
 use Rattle.sql_parse.specs.Grammar.{Level, Spells, Members, IsNumber, perhaps_not}
 use Rattle.sql_parse.specs.Grammar as g
-use Rattle.sql_parse.specs.Statements.{Listed, Condition, Label, Alias, Result, Table, on_condition, Joined, Join, Joins, Sources, Directed, SortKey, SortKeys, Count, Limits, Setting, PerhapsAll, IsSpelled}
+use Rattle.sql_parse.specs.Statements.{Listed, Condition, Label, Alias, Result, Table, Joined, Join, Joins, Sources, Directed, SortKey, SortKeys, Count, Limits, Setting, PerhapsAll, IsSpelled}
 use Rattle.sql_parse.specs.Statements as s
 use Rattle.sql_parse.proofs.Steps.{after-same}
 use Rattle.sql_parse.proofs.Complete.{Stops, expressions_complete, no_mark, no_dot, stops_at_op, stops_at_null_test, stops_at_between, stops_at_in, parts, lengths, members_at, from_last, from_more, list_last, list_more, more_at-stop, more_at-step}

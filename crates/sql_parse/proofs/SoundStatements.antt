@@ -1,7 +1,7 @@
 -- What is read as a statement is spelled so.
 use Rattle.std.proofs.Common.{◌≡◌, ℕ, ℤ, suc, zero, Bool, true, false, inl, inr, Option, None, Some, List, [], ◌∷◌, ◌++◌, length, refl, ap, sym, ◌∙◌, subst, append_assoc}
 use Rattle.sql_tree.specs.Trees.{Tree}
-use Rattle.sql_tree.specs.Statements.{SourceTree, ItemTree, KeyTree, SetTree, SelectTree, UpdateTree, DeleteTree, StatementTree}
+use Rattle.sql_tree.specs.Statements.{SourceTree, ItemTree, KeyTree, SelectTree, UpdateTree, DeleteTree, StatementTree}
 use Rattle.sql_tree.specs.Statements as statement
 use Rattle.sql_tree.specs.declared.statement.Cut.{Cut}
 use Rattle.sql_tree.specs.declared.statement.Cut.TheVariants as cut

@@ -3,7 +3,7 @@
 use Rattle.std.specs.Prelude.{◌≡◌, ℕ, ℤ, Bool, true, false, Option, None, Some, List, [], ◌∷◌, ◌++◌}
 use Rattle.sql_meaning.specs.Values.{Value}
 use Rattle.sql_meaning.specs.Values as value
-use Rattle.sql_tree.specs.Trees.{Tree, Trees, trees}
+use Rattle.sql_tree.specs.Trees.{Tree, trees}
 use Rattle.sql_tree.specs.Trees as tree
 use Rattle.sql_tree.specs.declared.expression.Op.{Op}
 use Rattle.sql_tree.specs.declared.expression.Op.TheVariants as op

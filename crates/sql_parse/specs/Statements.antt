@@ -1,7 +1,7 @@
 -- The grammar of statements around their expressions.
 use Rattle.std.specs.Prelude.{◌≡◌, ℕ, ℤ, Bool, true, false, Option, None, Some, List, [], ◌∷◌, ◌++◌}
 use Rattle.sql_tree.specs.Trees.{Tree}
-use Rattle.sql_tree.specs.Statements.{SourceTree, ItemTree, KeyTree, SetTree, SelectTree, UpdateTree, DeleteTree, StatementTree}
+use Rattle.sql_tree.specs.Statements.{SourceTree, ItemTree, KeyTree, SetTree, StatementTree}
 use Rattle.sql_tree.specs.Statements as statement
 use Rattle.sql_tree.specs.declared.statement.Cut.{Cut}
 use Rattle.sql_tree.specs.declared.statement.Cut.TheVariants as cut

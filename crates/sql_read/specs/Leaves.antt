@@ -4,7 +4,6 @@ use Rattle.sql_tree.specs.Trees.{Tree}
 use Rattle.sql_tree.specs.Trees as tree
 use Rattle.sql_meaning.specs.Values as value
 use Rattle.sql_read.specs.declared.lexeme.Mark.TheVariants as mark
-use Rattle.sql_read.specs.Lexemes.{Lexeme}
 use Rattle.sql_read.specs.Lexemes as lexeme
 use Rattle.sql_read.specs.Reading.{◌>>=◌, branch, Reader, after, name_at}
 

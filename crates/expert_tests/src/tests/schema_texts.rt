@@ -1,6 +1,6 @@
 //! Statements, and what is read of them.
 use schema_text::{create_index_head, create_table_head, create_unread_head, read_table};
-use sql_tokens::{Token, lex, token_text};
+use sql_tokens::{lex, token_text};
 use std::test::Fail;
 
 /// CREATE TABLE with how many columns it has, which of them is the rowid, and how many keys there are;

@@ -2,7 +2,6 @@
 use sql_bound::{BExpr, BExprs, Bound};
 use sql_tree::{Lit, Op};
 use sql_value::{Affinity, Bytes, Collation, Memory};
-use std::alloc::Global;
 
 fn append_digit(shown: &mut Bytes, number: u32) -> Result<(), Memory> {
     shown.push(b'0' + (number % 10) as u8)

@@ -1,5 +1,5 @@
 //! Tables of cases: statements, what isn't read, and depth.
-use sql_lex::{Foreign, Span, Token, foreign, foreign_name, lex, statements, too_deep};
+use sql_lex::{Foreign, Span, foreign, foreign_name, lex, statements, too_deep};
 use sql_value::Items;
 use std::test::Fail;
 

@@ -1,4 +1,4 @@
-use Rattle.std.proofs.Common.{◌≡◌, ◌≤◌, ◌+◌, ◌∙◌, arith}
+use Rattle.std.proofs.Common.{◌∙◌, arith}
 use Rattle.schema_text.proofs.Collations.{next}
 use Rattle.schema_text.proofs.column_texts.last_collation.Goals as goal
 

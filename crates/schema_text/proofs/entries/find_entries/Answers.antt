@@ -1,4 +1,4 @@
-use Rattle.std.proofs.Common.{◌≡◌, sym, ap, ◌∙◌}
+use Rattle.std.proofs.Common.{sym, ◌∙◌}
 use Rattle.schema_text.specs.Entries.{key_column}
 use Rattle.schema_text.proofs.Traversal.{stops, goes}
 use Rattle.schema_text.proofs.entries.find_entries.Goals as goal

@@ -1,4 +1,3 @@
-use Rattle.std.proofs.Common.{◌≡◌, sym, ap, ◌∙◌}
 use Rattle.schema_text.proofs.EntryLists.{stops, goes}
 use Rattle.schema_text.proofs.entries.read_entries.Goals as goal
 

@@ -1,4 +1,4 @@
-use Rattle.std.proofs.Common.{◌≡◌, ◌≤◌, ◌+◌, ◌++◌, ◌∷◌, [], ap, sym, ◌∙◌, arith, List, map, drop, ℕ, Bor}
+use Rattle.std.proofs.Common.{◌+◌, ◌++◌, ◌∷◌, [], ap, sym, ◌∙◌, arith, List, map, drop, ℕ, Bor}
 use Rattle.std.proofs.lemmas.List.{map-append}
 use Rattle.sql_tokens.specs.declared.token.Token.{Token}
 use Rattle.schema_text.specs.Groups.{parts_from}

@@ -1,4 +1,4 @@
-use Rattle.std.proofs.Common.{◌≡◌, ◌≤◌, ◌+◌, ◌++◌, ap, sym, ◌∙◌, arith, Bool, true, false, List, ℕ, Option, Some, None, option_map, drop, map, if◌then◌else◌}
+use Rattle.std.proofs.Common.{◌+◌, ◌++◌, ap, sym, ◌∙◌, arith, Bool, true, false, ℕ, Some, None, option_map, drop, map, if◌then◌else◌}
 use Rattle.schema_text.specs.Keys.{keys_of}
 use Rattle.schema_text.proofs.KeyLists.{next}
 use Rattle.schema_text.proofs.keys.read_keys.Goals as goal

@@ -1,4 +1,4 @@
-use Rattle.std.proofs.Common.{◌≡◌, ◌≤◌, ℕ, List, length, ap, sym, ◌∙◌, subst}
+use Rattle.std.proofs.Common.{◌≤◌, ℕ, List, length, ap, sym, ◌∙◌, subst}
 use Rattle.schema_model.specs.Names.{Differ}
 use Rattle.schema_model.specs.Columns.{column_names}
 use Rattle.schema_model.specs.Schemas.{IsWithinOption}

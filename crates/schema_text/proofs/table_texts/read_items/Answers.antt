@@ -1,4 +1,4 @@
-use Rattle.std.proofs.Common.{◌≡◌, ◌∙◌, sym, map}
+use Rattle.std.proofs.Common.{◌∙◌, sym, map}
 use Rattle.schema_text.proofs.ColumnLaws.{columns_sound}
 use Rattle.schema_text.proofs.table_texts.read_items.Goals as goal
 
