@@ -1,14 +1,6 @@
-//! A file for each topic, the lower crates' first.
+//! A file for each topic.
 mod binding;
-mod dumps;
-mod evaluation;
 mod grammar;
 mod limits;
 mod program;
-mod schema;
-mod schema_texts;
 mod shown;
-mod statements;
-mod streams;
-mod tokens;
-mod values;

@@ -1,0 +1,5 @@
+//! A file for each topic.
+mod statements;
+mod streams;
+mod tokens;
+mod values;
