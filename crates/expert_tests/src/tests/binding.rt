@@ -204,15 +204,18 @@ fn binds_and_refuses(rt: HostRuntime) -> Result<(), Fail> {
     Ok(())
 }
 
-/// What is applied to the two sides of `=`, for each left side in a row and each right side.
-const APPLIED: [(&str, [&str; 6]); 6] = [
-    ("1", ["--", "--", "T-", "N-", "N-", "N-"]),
-    ("b", ["--", "--", "--", "N-", "N-", "N-"]),
-    ("x", ["-T", "--", "--", "N-", "N-", "N-"]),
-    ("n", ["-N", "-N", "-N", "--", "--", "--"]),
-    ("i", ["-N", "-N", "-N", "--", "--", "--"]),
-    ("r", ["-N", "-N", "-N", "--", "--", "--"]),
-];
+/// The sides of `=`: no affinity, and columns of each.
+const SIDES: &str = "1 b x n i r";
+
+/// What is applied to the two sides, for each left side in a line and each right side in it.
+const APPLIED: &str = "
+1 => -- -- T- N- N- N-
+b => -- -- -- N- N- N-
+x => -T -- -- N- N- N-
+n => -N -N -N -- -- --
+i => -N -N -N -- -- --
+r => -N -N -N -- -- --
+";
 
 /// The two letters behind the first space: what is applied to the sides of the first comparison.
 fn applied(shown: &[u8]) -> &[u8] {
@@ -228,8 +231,11 @@ fn applied(shown: &[u8]) -> &[u8] {
 fn applies_affinities(rt: HostRuntime) -> Result<(), Fail> {
     let alloc = rt.alloc();
     let dump = read_dump(alloc, TABLES.as_bytes())?;
-    for (left, row) in APPLIED {
-        for ((right, _), want) in APPLIED.iter().zip(row) {
+    for line in APPLIED.lines() {
+        let Some((left, row)) = line.split_once(" => ") else {
+            continue;
+        };
+        for (right, want) in SIDES.split_whitespace().zip(row.split_whitespace()) {
             let statement = format!(in alloc; "SELECT {left} = {right} FROM b, x, n, i, r")?;
             let shown = becomes(alloc, &dump.schema, statement.as_bytes())?;
             assert_eq!(rt; applied(shown.as_slice()), want.as_bytes(), "{statement}");
@@ -239,16 +245,14 @@ fn applies_affinities(rt: HostRuntime) -> Result<(), Fail> {
 }
 
 /// The checks in their order, each by its refusal.
-const CHECKS: [&str; 8] = [
-    "more than 64 tables",
-    "no such table: nope",
-    "name used twice in FROM: x1",
-    "no such column: zr",
-    "no such column: zo",
-    "no such column: zw",
-    "no such column: zk",
-    "more than 256 terms",
-];
+const CHECKS: &str = "more than 64 tables
+no such table: nope
+name used twice in FROM: x1
+no such column: zr
+no such column: zo
+no such column: zw
+no such column: zk
+more than 256 terms";
 
 /// A statement in which two of the checks fail, numbered as above, and no other.
 fn failing(alloc: Global, checks: [usize; 2]) -> Result<Bytes, Fail> {
@@ -281,7 +285,7 @@ fn failing(alloc: Global, checks: [usize; 2]) -> Result<Bytes, Fail> {
 fn first_failure_counts(rt: HostRuntime) -> Result<(), Fail> {
     let alloc = rt.alloc();
     let dump = read_dump(alloc, TABLES.as_bytes())?;
-    for (first, why) in CHECKS.iter().enumerate() {
+    for (first, why) in CHECKS.lines().enumerate() {
         for second in first..8 {
             let statement = failing(alloc, [first, second])?;
             let shown = becomes(alloc, &dump.schema, statement.as_slice())?;
