@@ -14,6 +14,12 @@ const SCAN: &str =
 
 const NOTHING: &str = "-- Recommended\n(no new indexes)\n";
 
+const TWO_STATEMENTS: &str =
+    "SELECT y.a AS k FROM \"x1\" 'y' WHERE k = 1; SELECT [y].a FROM x1 AS [y] WHERE y.a = 1";
+
+const TWO_BLOCKS: &str =
+    "-- Statement 1\nrefused: syntax error\n\n-- Statement 2\n(no new indexes)\n\nSCAN x1 AS y\n\n-- Recommended\n(no new indexes)\n";
+
 /// No call of the objects in memory has this number.
 const NEVER: u64 = 99;
 
@@ -62,117 +68,83 @@ fn run(alloc: Global, words: &[&str], dump: &str) -> Result<Ran, Memory> {
     })
 }
 
+/// Whether a script has this report and status, by the words `-sql`, the script and `db`.
+fn reports(alloc: Global, script: &str, status: u8, out: &str) -> Result<bool, Memory> {
+    let ran = run(alloc, &["-sql", script, "db"], X1)?;
+    Ok(
+        ran.status == status
+            && ran.out.as_slice() == out.as_bytes()
+            && ran.err.as_slice().is_empty(),
+    )
+}
+
+/// Whether a call has this status and line, and no report.
+fn refuses(
+    alloc: Global,
+    words: &[&str],
+    dump: &str,
+    status: u8,
+    line: &str,
+) -> Result<bool, Memory> {
+    let ran = run(alloc, words, dump)?;
+    Ok(
+        ran.status == status
+            && ran.out.as_slice().is_empty()
+            && ran.err.as_slice() == line.as_bytes(),
+    )
+}
+
 #[test]
 fn reports_and_refuses(rt: HostRuntime) -> Result<(), Fail> {
     let alloc = rt.alloc();
-    // The option, the script, the database's name, the dump; the status and both streams.
-    for (option, script, database, dump, status, out, err) in [
-        ("-sql", "SELECT * FROM x1", "db", X1, 0u8, SCAN, ""),
-        ("--sql", "select\t*\nFrom X1;", "db", X1, 0, SCAN, ""),
-        ("-sql", "SELECT b, a FROM X1;", "db", X1, 0, SCAN, ""),
-        ("-sql", " ; /* none */ ;;", "db", X1, 0, NOTHING, ""),
-        ("-sql", "", "db", "", 0, NOTHING, ""),
-        (
-            "-sql",
-            "SELECT y.a AS k FROM \"x1\" 'y' WHERE k = 1; SELECT [y].a FROM x1 AS [y] WHERE y.a = 1",
-            "db",
-            X1,
-            3,
-            "-- Statement 1\nrefused: syntax error\n\n-- Statement 2\n(no new indexes)\n\nSCAN x1 AS y\n\n-- Recommended\n(no new indexes)\n",
-            "",
-        ),
-        (
-            "-sql",
-            "SELECT * FROM nope; SELECT * FROM x1",
-            "db",
-            X1,
-            3,
-            "-- Statement 1\nrefused: no such table: nope\n\n-- Statement 2\n(no new indexes)\n\nSCAN x1\n\n-- Recommended\n(no new indexes)\n",
-            "",
-        ),
-        (
-            "-sql",
-            "SELECT * FROM x1",
-            "gone",
-            X1,
-            4,
-            "",
-            "sqlite3_expert: cannot read gone\n",
-        ),
-        (
-            "-sql",
-            "",
-            "db",
-            "SQLite format 3\0",
-            2,
-            "",
-            "sqlite3_expert: database file format not read\n",
-        ),
-    ] {
-        let ran = run(alloc, &[option, script, database], dump)?;
-        assert_eq!(rt; ran.status, status, "{script}");
-        assert_eq!(rt; ran.out.as_slice(), out.as_bytes(), "{script}");
-        assert_eq!(rt; ran.err.as_slice(), err.as_bytes(), "{script}");
-    }
+    assert!(rt; reports(alloc, "SELECT * FROM x1", 0, SCAN)?);
+    assert!(rt; reports(alloc, "select\t*\nFrom X1;", 0, SCAN)?);
+    assert!(rt; reports(alloc, "SELECT b, a FROM X1;", 0, SCAN)?);
+    assert!(rt; reports(alloc, " ; /* none */ ;;", 0, NOTHING)?);
+    assert!(rt; reports(alloc, "", 0, NOTHING)?);
+    assert!(rt; reports(alloc, TWO_STATEMENTS, 3, TWO_BLOCKS)?);
+    let gone = ["--sql", "SELECT * FROM x1", "gone"];
+    assert!(rt; refuses(alloc, &gone, X1, 4, "sqlite3_expert: cannot read gone\n")?);
+    let file = "sqlite3_expert: database file format not read\n";
+    assert!(rt; refuses(alloc, &["-sql", "", "db"], "SQLite format 3\0", 2, file)?);
     Ok(())
 }
+
+/// A statement a line, and why it is refused.
+const REFUSED: &str = "
+SELECT 'ab => unrecognized token
+SELECT a FROM x1 WHERE a = = 5 => syntax error
+SELECT a FROM x1 WHERE a = 1.23456 => number outside this profile
+SELECT a FROM x1 WHERE a + 1 = 2 => not in this profile: ARITHMETIC
+SELECT a FROM x1 WHERE a+1 = 1.23456 => not in this profile: ARITHMETIC
+SELECT a FROM x1 WHERE a IN (SELECT 1) => not in this profile: SUBQUERY
+INSERT INTO x1 VALUES(1,2,3) => not in this profile: INSERT
+SELECT 1 => not in this profile: SELECT WITHOUT FROM
+SELECT * FROM nope, x1, x1 => no such table: nope
+SELECT * FROM v => table not read: v
+SELECT zz FROM x1 => no such column: zz
+SELECT x1.zz FROM x1 => no such column: x1.zz
+SELECT \"t\".* FROM x1 => no such column: t.*
+SELECT a FROM x1, x1 AS y WHERE zz = 1 => ambiguous column name: a
+SELECT * FROM x1, x1 => name used twice in FROM: x1
+SELECT * FROM x1 ORDER BY 4 => ORDER BY position out of range
+SELECT * FROM x1 WHERE a COLLATE foo = 1 => no such collation: foo
+SELECT * FROM x1 ORDER BY a => form not built yet
+SELECT * FROM x1 LIMIT 1 => form not built yet
+SELECT * FROM x1, x1 AS y => form not built yet
+UPDATE x1 SET a = 1 => form not built yet
+DELETE FROM x1 => form not built yet
+";
 
 #[test]
 fn refuses_by_name(rt: HostRuntime) -> Result<(), Fail> {
     let alloc = rt.alloc();
-    for (script, why) in [
-        ("SELECT 'ab", "unrecognized token"),
-        ("SELECT a FROM x1 WHERE a = = 5", "syntax error"),
-        (
-            "SELECT a FROM x1 WHERE a = 1.23456",
-            "number outside this profile",
-        ),
-        (
-            "SELECT a FROM x1 WHERE a + 1 = 2",
-            "not in this profile: ARITHMETIC",
-        ),
-        (
-            "SELECT a FROM x1 WHERE a+1 = 1.23456",
-            "not in this profile: ARITHMETIC",
-        ),
-        (
-            "SELECT a FROM x1 WHERE a IN (SELECT 1)",
-            "not in this profile: SUBQUERY",
-        ),
-        (
-            "INSERT INTO x1 VALUES(1,2,3)",
-            "not in this profile: INSERT",
-        ),
-        ("SELECT 1", "not in this profile: SELECT WITHOUT FROM"),
-        ("SELECT * FROM nope, x1, x1", "no such table: nope"),
-        ("SELECT * FROM v", "table not read: v"),
-        ("SELECT zz FROM x1", "no such column: zz"),
-        ("SELECT x1.zz FROM x1", "no such column: x1.zz"),
-        ("SELECT \"t\".* FROM x1", "no such column: t.*"),
-        (
-            "SELECT a FROM x1, x1 AS y WHERE zz = 1",
-            "ambiguous column name: a",
-        ),
-        ("SELECT * FROM x1, x1", "name used twice in FROM: x1"),
-        (
-            "SELECT * FROM x1 ORDER BY 4",
-            "ORDER BY position out of range",
-        ),
-        (
-            "SELECT * FROM x1 WHERE a COLLATE foo = 1",
-            "no such collation: foo",
-        ),
-        ("SELECT * FROM x1 ORDER BY a", "form not built yet"),
-        ("SELECT * FROM x1 LIMIT 1", "form not built yet"),
-        ("SELECT * FROM x1, x1 AS y", "form not built yet"),
-        ("UPDATE x1 SET a = 1", "form not built yet"),
-        ("DELETE FROM x1", "form not built yet"),
-    ] {
-        let ran = run(
-            alloc,
-            &["-sql", script, "db"],
-            "CREATE TABLE x1(a,b,c); CREATE VIEW v AS x",
-        )?;
+    let dump = "CREATE TABLE x1(a,b,c); CREATE VIEW v AS x";
+    for line in REFUSED.lines() {
+        let Some((script, why)) = line.split_once(" => ") else {
+            continue;
+        };
+        let ran = run(alloc, &["-sql", script, "db"], dump)?;
         assert_eq!(rt; ran.status, 3, "{script}");
         let out = format!(in alloc; "-- Statement 1\nrefused: {why}\n\n{NOTHING}")?;
         assert_eq!(rt; ran.out.as_slice(), out.as_bytes(), "{script}");
