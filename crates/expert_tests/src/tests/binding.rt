@@ -1,5 +1,5 @@
 //! What statements are bound to, and the first check that they fail.
-ghost use Rattle.std.specs.Prelude.{◌≡◌, ◌<◌, length, true};
+ghost use Rattle.std.specs.Prelude.{◌≡◌, ◌<◌, ◌^◌, length, true};
 ghost use Rattle.sql_tree.specs.Statements.{statement_tree};
 ghost use Rattle.sql_bind.specs.Clauses.{sources_of};
 
