@@ -1,5 +1,5 @@
-//! Tests of the grammar, of binding and of the whole program, over their public calls. They stand
-//! apart from what they test, since a crate with tests of its own is proved twice.
+//! Tests of the grammar and of the whole program, over public calls. They stand apart from what
+//! they test, since a crate with tests of its own is proved twice.
 #![tactic(auto)]
 
 #[cfg(test)]

@@ -1,6 +1,3 @@
 //! A file for each topic.
-mod binding;
 mod grammar;
-mod limits;
 mod program;
-mod shown;

@@ -1,0 +1,3 @@
+//! A file for each topic.
+mod binding;
+mod shown;
