@@ -85,6 +85,8 @@ SELECT * FROM nope, w1 => no such table: nope
 SELECT * FROM x1, w1, nope => table not read: w1
 SELECT zz FROM x1, x1 => name used twice in FROM: x1
 SELECT zz FROM x1 AS t, y1 T => name used twice in FROM: T
+UPDATE nope SET zz = yy => no such table: nope
+DELETE FROM w1 WHERE zz = 1 => table not read: w1
 
 -- a column by its name, alone or behind its table's, and the alias of the rowid
 SELECT X FROM b, x => 1.0 ()(0)
@@ -93,6 +95,7 @@ SELECT x FROM x, d => ambiguous column name: x
 SELECT y FROM x => no such column: y
 SELECT q.x FROM x => no such column: q.x
 SELECT x.Y FROM x => no such column: x.Y
+SELECT x1.zz FROM x1 => no such column: x1.zz
 SELECT x1.a FROM x1 AS q => no such column: x1.a
 SELECT id FROM b, a => 1.rowid ()()
 SELECT a.Id FROM b, a => 1.rowid ()()
@@ -107,6 +110,8 @@ SELECT b.rowid, w.rowid FROM b, w => 0.rowid 1.0 ()(0)
 SELECT rowid, oid FROM r1 => 0.1 0.rowid (1)
 SELECT id, y1.oid FROM x1, y1 => 1.rowid 1.rowid ()()
 SELECT d.oid FROM x1, y1 => no such column: d.oid
+SELECT rowid FROM x1, y1 => ambiguous column name: rowid
+SELECT rowid, oid, _ROWID_ FROM x1 => 0.rowid 0.rowid 0.rowid ()
 
 -- TRUE and FALSE, where no table or one has such a column
 SELECT TRUE, False FROM b, x => 1 0 ()()
@@ -142,6 +147,7 @@ SELECT x = z FROM x => no such column: z
 SELECT x COLLATE zz BETWEEN y AND z FROM x => no such collation: zz
 SELECT x BETWEEN z AND y FROM x => no such column: z
 SELECT x IN (x COLLATE zz, y) FROM x => no such collation: zz
+SELECT a FROM x1 WHERE a COLLATE foo = zz => no such collation: foo
 
 -- the result list
 SELECT * FROM x1 => 0.0 0.1 0.2 (012)
@@ -172,6 +178,11 @@ SELECT d FROM y1 ORDER BY d => 0.1 by 0.1 n (1)
 SELECT a FROM x1 ORDER BY b, c => 0.0 by 0.1 b by 0.2 b (012)
 SELECT a AS z FROM x1 WHERE z = 1 => no such column: z
 SELECT a AS z FROM x1 ORDER BY z COLLATE foo => no such collation: foo
+
+-- results before ON, ON before WHERE, WHERE before ORDER BY
+SELECT zz FROM x1 WHERE yy = 1 => no such column: zz
+SELECT * FROM x1 JOIN y1 ON zz = 1 WHERE yy = 1 => no such column: zz
+SELECT * FROM x1 WHERE yy = 1 ORDER BY 9 => no such column: yy
 
 -- conjuncts: ON before WHERE, and ANDs and BETWEEN taken apart
 SELECT c FROM x1 WHERE (a = 1 AND (b = 2 AND a < 3)) AND (b = 1 OR c = 1) => 0.2 & 0.0=1 --b & 0.1=2 --b & 0.0<3 --b & any (0.1=1 --b,0.2=1 --b,) (012)
@@ -241,6 +252,37 @@ fn applies_affinities(rt: HostRuntime) -> Result<(), Fail> {
             assert_eq!(rt; applied(shown.as_slice()), want.as_bytes(), "{statement}");
         }
     }
+    Ok(())
+}
+
+/// `SELECT 1` from so many tables, with so many terms.
+fn counted(alloc: Global, tables: u32, terms: u32) -> Result<Bytes, Fail> {
+    let mut text = Bytes::copy(alloc, b"SELECT 1 FROM x1")?;
+    for number in 1..tables {
+        text.append(format!(in alloc; ", x1 AS t{number}")?.as_bytes())?;
+    }
+    text.append(b" WHERE 1")?;
+    for _ in 1..terms {
+        text.append(b" AND 1")?;
+    }
+    Ok(text)
+}
+
+#[test]
+fn counts_tables_and_terms(rt: HostRuntime) -> Result<(), Fail> {
+    let alloc = rt.alloc();
+    let dump = read_dump(alloc, TABLES.as_bytes())?;
+    for [tables, terms] in [[64, 1], [64, 256]] {
+        let statement = counted(alloc, tables, terms)?;
+        let shown = becomes(alloc, &dump.schema, statement.as_slice())?;
+        assert!(rt; shown.as_slice().starts_with(b"1 & 1 "), "{tables} {terms}");
+    }
+    let many_tables = counted(alloc, 65, 257)?;
+    let shown = becomes(alloc, &dump.schema, many_tables.as_slice())?;
+    assert_eq!(rt; shown.as_slice(), b"more than 64 tables".as_slice());
+    let many_terms = counted(alloc, 64, 257)?;
+    let shown = becomes(alloc, &dump.schema, many_terms.as_slice())?;
+    assert_eq!(rt; shown.as_slice(), b"more than 256 terms".as_slice());
     Ok(())
 }
 

@@ -57,20 +57,30 @@ struct Ran {
 }
 
 fn run(alloc: Global, words: &[&str], dump: &str) -> Result<Ran, Memory> {
-    let words = words_of(alloc, words)?;
+    run_within(alloc, &words_of(alloc, words)?, dump, 9_999)
+}
+
+/// The same where the report has so much room.
+fn run_within(alloc: Global, words: &Words, dump: &str, room: usize) -> Result<Ran, Memory> {
     let mut shelf = shelf(alloc, dump, NEVER, 7)?;
-    let mut out = MemorySink::new(alloc, 9_999, Calls::new(alloc), 999)?;
+    let mut out = MemorySink::new(alloc, room, Calls::new(alloc), 9_999)?;
     let mut err = MemorySink::new(alloc, 999, Calls::new(alloc), 999)?;
     Ok(Ran {
-        status: expert(alloc, &words, &mut shelf, &mut out, &mut err),
+        status: expert(alloc, words, &mut shelf, &mut out, &mut err),
         out: Bytes::copy(alloc, out.written())?,
         err: Bytes::copy(alloc, err.written())?,
     })
 }
 
-/// Whether a script has this report and status, by the words `-sql`, the script and `db`.
-fn reports(alloc: Global, script: &str, status: u8, out: &str) -> Result<bool, Memory> {
-    let ran = run(alloc, &["-sql", script, "db"], X1)?;
+/// Whether a script has this report and status, by the option, the script and `db`.
+fn reports(
+    alloc: Global,
+    option: &str,
+    script: &str,
+    status: u8,
+    out: &str,
+) -> Result<bool, Memory> {
+    let ran = run(alloc, &[option, script, "db"], X1)?;
     Ok(
         ran.status == status
             && ran.out.as_slice() == out.as_bytes()
@@ -97,12 +107,12 @@ fn refuses(
 #[test]
 fn reports_and_refuses(rt: HostRuntime) -> Result<(), Fail> {
     let alloc = rt.alloc();
-    assert!(rt; reports(alloc, "SELECT * FROM x1", 0, SCAN)?);
-    assert!(rt; reports(alloc, "select\t*\nFrom X1;", 0, SCAN)?);
-    assert!(rt; reports(alloc, "SELECT b, a FROM X1;", 0, SCAN)?);
-    assert!(rt; reports(alloc, " ; /* none */ ;;", 0, NOTHING)?);
-    assert!(rt; reports(alloc, "", 0, NOTHING)?);
-    assert!(rt; reports(alloc, TWO_STATEMENTS, 3, TWO_BLOCKS)?);
+    assert!(rt; reports(alloc, "-sql", "SELECT * FROM x1", 0, SCAN)?);
+    assert!(rt; reports(alloc, "--sql", "select\t*\nFrom X1;", 0, SCAN)?);
+    assert!(rt; reports(alloc, "-sql", "SELECT b, a FROM X1;", 0, SCAN)?);
+    assert!(rt; reports(alloc, "-sql", " ; /* none */ ;;", 0, NOTHING)?);
+    assert!(rt; reports(alloc, "-sql", "", 0, NOTHING)?);
+    assert!(rt; reports(alloc, "-sql", TWO_STATEMENTS, 3, TWO_BLOCKS)?);
     let gone = ["--sql", "SELECT * FROM x1", "gone"];
     assert!(rt; refuses(alloc, &gone, X1, 4, "sqlite3_expert: cannot read gone\n")?);
     let file = "sqlite3_expert: database file format not read\n";
@@ -207,5 +217,46 @@ fn a_fault_of_standard_error_changes_nothing(rt: HostRuntime) -> Result<(), Fail
         assert_eq!(rt; out.written(), b"".as_slice());
         assert_eq!(rt; errors.written(), b"".as_slice());
     }
+    Ok(())
+}
+
+/// The words of a script that has a front, a piece so often, and a back.
+fn long_script(
+    alloc: Global,
+    [front, piece, back]: [&str; 3],
+    count: u32,
+) -> Result<Words, Memory> {
+    let mut script = Bytes::copy(alloc, front.as_bytes())?;
+    for _ in 0..count {
+        script.append(piece.as_bytes())?;
+    }
+    script.append(back.as_bytes())?;
+    let mut words = words_of(alloc, &["-sql"])?;
+    words.push(script)?;
+    words.push(Bytes::copy(alloc, b"db")?)?;
+    Ok(words)
+}
+
+/// How long such a script's report is; nothing where a statement is refused.
+fn report_length(alloc: Global, parts: [&str; 3], count: u32) -> Result<usize, Memory> {
+    let words = long_script(alloc, parts, count)?;
+    let ran = run_within(alloc, &words, X1, 12_000_000)?;
+    Ok(if ran.status == 0 {
+        ran.out.as_slice().len()
+    } else {
+        0
+    })
+}
+
+/// Lists are read in loops: the stack and the time of a byte don't grow with them.
+#[test]
+fn reads_the_largest_scripts(rt: HostRuntime) -> Result<(), Fail> {
+    let alloc = rt.alloc();
+    let terms = ["SELECT a FROM x1 WHERE ''", "OR''", ""];
+    assert_eq!(rt; report_length(alloc, terms, 1_000_000)?, SCAN.len());
+    let entries = ["SELECT a FROM x1 WHERE a IN (1", ",1", ")"];
+    assert_eq!(rt; report_length(alloc, entries, 99_999)?, SCAN.len());
+    let statements = ["", "SELECT a FROM x1;", ""];
+    assert_eq!(rt; report_length(alloc, statements, 246_000)?, 11_450_927);
     Ok(())
 }
