@@ -43,7 +43,8 @@ impl MemorySink {
     pub fn new(alloc: Global, room: u64, failing: Calls, most: u64) -> Result<MemorySink, Memory>
         requires { 1 ≤ most }
         ensures { IfOk result
-            (λ sink. sink ≡ record { written = []; room = room; failing = failing; most = most; calls = 0; faults = 0 }) }
+            (λ sink. sink ≡ record { written = []; room = room; failing = failing; most = most;
+                calls = 0; faults = 0 }) }
     {
         match Vec::with_capacity(alloc, room as usize) {
             Ok(held) => Ok(MemorySink {
@@ -74,14 +75,16 @@ impl Sink for MemorySink {
     fn write(&mut self, piece: &[u8]) -> Result<usize, Failed>
         ensures bound { IfOk result (λ n. n ≤ length piece.now) }
         ensures some { IfOk result (λ n. 0 < length piece.now → 0 < n) }
-        ensures bytes { WriteAppends (Some self.old.written) (Some self.new.written) result piece.now }
+        ensures bytes { WriteAppends (Some self.old.written)
+            (Some self.new.written) result piece.now }
         ensures cause { HasCause self.old.faults self.new.faults result }
 
         // It fails exactly at a listed call, and where a piece that is not empty finds no room.
         ensures exactly { IsErr result ↔ (IsListed self.old.calls self.old.failing
             ⊎ ((length self.old.written ≡ self.old.room) × (0 < length piece.now))) }
         ensures takes { IfOk result
-            (λ n. n ≡ min (min (length piece.now) (self.old.room - length self.old.written)) self.old.most) }
+            (λ n. n ≡ min (min (length piece.now) (self.old.room - length self.old.written))
+                self.old.most) }
         ensures fault { OnErr result (self.new.faults ≡ raised self.old.faults) }
         ensures call { self.new.calls ≡ raised self.old.calls }
     {

@@ -25,7 +25,8 @@ pub trait Sink {
 /// Writes the whole piece.
 pub fn write_all<S: Sink>(sink: &mut S, piece: &[u8]) -> Result<(), Failed>
     ensures ok { OnOk result (Appends (S.written sink.old) (S.written sink.new) piece.now) }
-    ensures err { OnErr result (AppendsProperPrefix (S.written sink.old) (S.written sink.new) piece.now) }
+    ensures err { OnErr result (AppendsProperPrefix (S.written sink.old)
+        (S.written sink.new) piece.now) }
     ensures cause { HasCause (S.faults sink.old) (S.faults sink.new) result }
 {
     let mut done = 0usize;

@@ -38,7 +38,8 @@ WritesLine old new before now line = Appends old new line ⊎ (AppendsProperPref
 
 -- the program answered and wrote what it does over these files; `old` and `new` are what the sinks
 -- held, where they tell it
-pub record Gives (ran : Ran) (status : ℕ) (out_old out_new err_old err_new : Option (List ℕ)) : Type 0
+pub record Gives (ran : Ran) (status : ℕ)
+    (out_old out_new err_old err_new : Option (List ℕ)) : Type 0
   where
     pub status_is : status ≡ ran.status
     pub out_is : Appends out_old out_new ran.out

@@ -57,12 +57,15 @@ fn answer_on(alloc: Global, script: &[u8], schema: &Schema) -> Result<Answer, Me
 fn answer_over<'a>(alloc: Global, script: &[u8], database: &[u8]) -> Result<Answer, Refusal<'a>>
     requires script { length script.now ≤ 4194304 }
     requires database { length database.now ≤ 67108864 }
-    ensures answered { IfOk result (λ answer. gives answer ≡ run_schema script.now (schema_of database.now)) }
+    ensures answered { IfOk result (λ answer. gives answer
+        ≡ run_schema script.now (schema_of database.now)) }
     ensures refused { IfErr result (λ refusal. status_of refusal ≢ 6
-        → run_schema script.now (schema_of database.now) ≡ refused (status_of refusal) (line_of refusal)) }
+        → run_schema script.now (schema_of database.now)
+            ≡ refused (status_of refusal) (line_of refusal)) }
     ensures known { IfErr result IsOfTexts }
     ensures report { IfOk result (λ answer. is_report answer.status ≡ true) }
-    ensures means { IfOk result (λ answer. Means (advised_on script.now database.now) answer.report) }
+    ensures means { IfOk result (λ answer. Means
+        (advised_on script.now database.now) answer.report) }
 {
     let dump = match read_dump(alloc, database) {
         Ok(dump) => dump,
@@ -87,7 +90,8 @@ pub fn answer_texts<'a>(
         → run_texts script.now database.now ≡ refused (status_of refusal) (line_of refusal)) }
     ensures known { IfErr result IsOfTexts }
     ensures report { IfOk result (λ answer. is_report answer.status ≡ true) }
-    ensures means { IfOk result (λ answer. Means (advised_on script.now database.now) answer.report) }
+    ensures means { IfOk result (λ answer. Means
+        (advised_on script.now database.now) answer.report) }
 {
     if database.starts_with(FILE_HEADER) {
         return Err(Refusal::DatabaseFile);

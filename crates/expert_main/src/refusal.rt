@@ -46,7 +46,8 @@ fn write_line<E: Sink>(err: &mut E, front: &[u8], name: &[u8]) -> Result<(), Fai
 
 // Writes a line, as far as the sink takes it.
 fn say<E: Sink>(err: &mut E, front: &[u8], name: &[u8])
-    ensures { WritesLine (E.written err.old) (E.written err.new) (E.faults err.old) (E.faults err.new)
+    ensures { WritesLine (E.written err.old) (E.written err.new) (E.faults err.old)
+        (E.faults err.new)
         (front.now ++ name.now ++ 10 ∷ []) }
 {
     let _ = write_line(err, front, name);
@@ -71,7 +72,8 @@ impl<'a> Refusal<'a> {
 
     /// Says so on standard error, as far as the sink takes it.
     pub fn complain<E: Sink>(&self, err: &mut E)
-        ensures { WritesLine (E.written err.old) (E.written err.new) (E.faults err.old) (E.faults err.new)
+        ensures { WritesLine (E.written err.old) (E.written err.new) (E.faults err.old)
+            (E.faults err.new)
             (line_of self.now) }
     {
         match self {

@@ -96,7 +96,8 @@ fn attempt<'a, F: Shelf, O: Sink>(
         (λ files. run words.now files ≡ refused 2 (line_of refusal))) }
     ensures read { IfOk result (λ status. (database : List ℕ)
         × ((run words.now ((database_of words.now, database) ∷ [])).status ≡ status)
-        × Appends (O.written out.old) (O.written out.new) (run words.now ((database_of words.now, database) ∷ [])).out
+        × Appends (O.written out.old) (O.written out.new)
+            (run words.now ((database_of words.now, database) ∷ [])).out
         × ReportMeans words.now ((database_of words.now, database) ∷ [])
         (run words.now ((database_of words.now, database) ∷ [])).out) }
 
@@ -158,7 +159,8 @@ pub fn expert<F: Shelf, O: Sink, E: Sink>(
         → Stood (O.faults out.old) (O.faults out.new)
         → Stood (E.faults err.old) (E.faults err.new) → result ≢ 6 → IfSome (F.files shelf.old)
         (λ files.
-        Gives (run words.now files) result (O.written out.old) (O.written out.new) (E.written err.old) (E.written err.new)) }
+        Gives (run words.now files) result (O.written out.old) (O.written out.new)
+            (E.written err.old) (E.written err.new)) }
     ensures answered { is_report result ≡ true → IfSome (F.files shelf.old)
         (λ files. ((run words.now files).status ≡ result)
         × Appends (O.written out.old) (O.written out.new) (run words.now files).out) }
@@ -178,7 +180,8 @@ pub fn expert<F: Shelf, O: Sink, E: Sink>(
     // Over files that tell nothing of themselves too: what was written is the report on some bytes.
     ensures read { is_report result ≡ true → (database : List ℕ)
         × ((run words.now ((database_of words.now, database) ∷ [])).status ≡ result)
-        × Appends (O.written out.old) (O.written out.new) (run words.now ((database_of words.now, database) ∷ [])).out
+        × Appends (O.written out.old) (O.written out.new)
+            (run words.now ((database_of words.now, database) ∷ [])).out
         × ReportMeans words.now ((database_of words.now, database) ∷ [])
         (run words.now ((database_of words.now, database) ∷ [])).out }
 
@@ -201,8 +204,10 @@ pub fn expert<F: Shelf, O: Sink, E: Sink>(
     // Nothing is written to `out` after any other status, and to `err` after a report.
     ensures out_unchanged { is_report result ≡ false → result ≢ 5 → out.new ≡ out.old }
     ensures err_unchanged { is_report result ≡ true → err.new ≡ err.old }
-    ensures err_line { is_report result ≡ false → (line : List ℕ) × IsLineAfter result words.now line
-        × WritesLine (E.written err.old) (E.written err.new) (E.faults err.old) (E.faults err.new) line }
+    ensures err_line { is_report result ≡ false → (line : List ℕ)
+        × IsLineAfter result words.now line
+        × WritesLine (E.written err.old) (E.written err.new) (E.faults err.old)
+            (E.faults err.new) line }
 {
     match attempt(alloc, words, shelf, out) {
         Ok(status) => status,

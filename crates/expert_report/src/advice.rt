@@ -55,7 +55,8 @@ fn planned<'a>(
     requires keys { (bound_of bound.now).keys ≡ [] }
     ensures outcome { IfOk result (λ outcome. outcome ≡ outcome_of schema.now
         (meant.Planned (table_scan (bound_of bound.now)) (aliases_of bound.now.items.now))) }
-    ensures means { OnOk result (Means (plain_schema schema.now) (table_scan (bound_of bound.now))) }
+    ensures means { OnOk result (Means (plain_schema schema.now)
+        (table_scan (bound_of bound.now))) }
 {
     table_scans_mean();
     let plan = scan_plan(arena, bound)?;
@@ -80,7 +81,8 @@ fn bound_outcome<'a>(
     bound: Bound<'a>,
 ) -> Result<StatementOutcome, Memory>
     requires bound { bound_of bound ≡ bound_statement schema.now (statement_tree statement.now) }
-    requires aliases { aliases_of bound.items.now ≡ aliases_statement (statement_tree statement.now) }
+    requires aliases { aliases_of bound.items.now
+        ≡ aliases_statement (statement_tree statement.now) }
     requires fits { Fits (plain_schema schema.now) (bound_of bound) (needs_of bound) }
     ensures outcome { IfOk result (λ outcome. outcome ≡ outcome_of schema.now
         (meant.bound_advice schema.now (statement_tree statement.now) None)) }
@@ -145,7 +147,8 @@ fn span_outcomes<'a>(
     spans: &[Span],
 ) -> Result<StatementOutcomes, Memory>
     ensures outcomes { IfOk result (λ outcomes. outcomes ≡ map
-        (λ span. outcome_of schema.now (meant.statement_advice schema.now text.now (run_of tokens.now span)))
+        (λ span. outcome_of schema.now (meant.statement_advice schema.now text.now
+            (run_of tokens.now span)))
         spans.now) }
     ensures means { OnOk result (AllByRecursion
         (λ span. meant.AdviceMeans (plain_schema schema.now)
@@ -166,7 +169,8 @@ pub fn advise(alloc: Global, schema: &Schema, script: &[u8]) -> Result<Report, M
     requires { length script.now < 2 ^ 32 }
     ensures report { IfOk result (λ report. report
         ≡ report_on schema.now (meant.script_advice schema.now script.now)) }
-    ensures means { OnOk result (meant.EachMeans schema.now (meant.script_advice schema.now script.now)) }
+    ensures means { OnOk result (meant.EachMeans schema.now
+        (meant.script_advice schema.now script.now)) }
 {
     let tokens = lex(alloc, script)?;
     if tokens.as_slice().len() >= 1 << 32 {

@@ -22,5 +22,6 @@ pub fn spelled_runs_are_known()
 pub fn spelled_runs_are_refused_for_depth_alone()
     ensures { (text : List ℕ) → (tokens : List Token) → (tree : StatementTree)
         → IsSpelled (lexemes_of text tokens) tree
-        → first_refusal text tokens ≡ cond (nat_lt 200 (depth_of text tokens)) (Some fault.TooDeep) None }
+        → first_refusal text tokens ≡ cond (nat_lt 200 (depth_of text tokens))
+            (Some fault.TooDeep) None }
 {}

@@ -18,13 +18,15 @@ pub fn tallies_tell_permutations<T>()
 
 /// A sort gives its members in order, and has each of them as often.
 pub fn sorts_only_move_members<T>()
-    ensures ordered { (cmp : T → T → Ordering) → IsTotalOrder cmp → (xs : List T) → Ascends cmp (sort_by cmp xs) }
+    ensures ordered { (cmp : T → T → Ordering) → IsTotalOrder cmp → (xs : List T)
+        → Ascends cmp (sort_by cmp xs) }
     ensures kept { (cmp : T → T → Ordering) (xs : List T) → SameTally (sort_by cmp xs) xs }
 {}
 
 /// A stretch is the filter of its list by both of its ends, where the list is in order for them:
 /// members that are not before stand together at its end, and so do those that are past.
 pub fn stretches_are_filters<T>()
-    ensures { (before past : T → Bool) (xs : List T) → Rises (λ x. not (before x)) xs → Rises past xs
+    ensures { (before past : T → Bool) (xs : List T) → Rises (λ x. not (before x)) xs
+        → Rises past xs
         → stretch before past xs ≡ filter (λ x. not (before x) && not (past x)) xs }
 {}

@@ -30,7 +30,8 @@ fn append_item(text: &mut Bytes, schema: &Schema, item: &BItem) -> Result<(), Me
 fn append_scan(text: &mut Bytes, schema: &Schema, item: &BItem) -> Result<(), Memory>
     requires { item.now.table < length schema.now.tables }
     ensures { OnOk result (text.new ≡ text.old
-        ++ meant.scan_line (meant.with_alias (meant.name_of (slice_get schema.now.tables item.now.table))
+        ++ meant.scan_line (meant.with_alias
+            (meant.name_of (slice_get schema.now.tables item.now.table))
         (option_map (λ alias. alias.now) item.now.alias))) }
 {
     text.append(b"SCAN ")?;
@@ -40,10 +41,12 @@ fn append_scan(text: &mut Bytes, schema: &Schema, item: &BItem) -> Result<(), Me
 
 /// The line of a loop that scans its table.
 fn append_loop(text: &mut Bytes, schema: &Schema, bound: &Bound, scan: &Loop) -> Result<(), Memory>
-    requires tables { AllByRecursion (λ i. i.table < length schema.now.tables) (bound_of bound.now).items }
+    requires tables { AllByRecursion (λ i. i.table < length schema.now.tables)
+        (bound_of bound.now).items }
     requires item { scan.now.item < length (bound_of bound.now).items }
     ensures { OnOk result (text.new ≡ text.old ++ meant.scan_line
-        (meant.item_text schema.now (meant.aliases_of bound.now.items.now) (bound_of bound.now) scan.now.item)) }
+        (meant.item_text schema.now (meant.aliases_of bound.now.items.now)
+            (bound_of bound.now) scan.now.item)) }
 {
     append_scan(text, schema, &bound.items[scan.item as usize])
 }
@@ -52,7 +55,8 @@ fn append_loop(text: &mut Bytes, schema: &Schema, bound: &Bound, scan: &Loop) ->
 pub fn plan_text(alloc: Global, schema: &Schema, plan: &Plan) -> Result<Bytes, Memory>
     requires { meant.ScansTables schema.now (plan_of plan.now) }
     ensures { IfOk result (λ text. text
-        ≡ meant.plan_lines schema.now (meant.aliases_of plan.now.bound.now.items.now) (plan_of plan.now)) }
+        ≡ meant.plan_lines schema.now (meant.aliases_of plan.now.bound.now.items.now)
+            (plan_of plan.now)) }
 {
     let mut text = Bytes::new(alloc);
     for scan in plan.loops {

@@ -6,4 +6,5 @@ use Rattle.schema_model.specs.Columns.{has_column_name}
 use Rattle.schema_model.specs.declared.columns.Columns.TheInside.{Inside}
 
 abbrev pub KeepsPlaces : Inside → Type 0
-KeepsPlaces a = (name : List ℕ) → lookup (λ key. is_name name key.items) a.places.entries ≡ position (has_column_name name) a.held.items
+KeepsPlaces a = (name : List ℕ) → lookup (λ key. is_name name key.items) a.places.entries
+    ≡ position (has_column_name name) a.held.items

@@ -20,7 +20,8 @@ is_name_byte byte = is_ascii_alphanumeric byte || byte == 95
 -- a name that is printed without quotes
 abbrev pub is_plain_name : List ℕ → Bool
 is_plain_name [] = false
-is_plain_name (b ∷ bs) = is_name_start b && list_all is_name_byte bs && not (is_reserved_name (b ∷ bs))
+is_plain_name (b ∷ bs) = is_name_start b && list_all is_name_byte bs
+    && not (is_reserved_name (b ∷ bs))
 
 -- each double quote twice
 abbrev pub doubled : List ℕ → List ℕ
@@ -43,7 +44,8 @@ same_collation _ _ = false
 
 -- the collation of an entry where it isn't the column's own
 abbrev pub collation_text : Collation → Collation → List ℕ
-collation_text own coll = if same_collation own coll then [] else codes " COLLATE " ++ collation_name coll
+collation_text own coll = if same_collation own coll then []
+    else codes " COLLATE " ++ collation_name coll
 
 abbrev pub direction_text : Bool → List ℕ
 direction_text true = codes " DESC"
@@ -64,7 +66,8 @@ entry_text columns entry = entry_of (slice_get columns entry.column) entry
 
 abbrev pub further_entries : List Column → List IndexColumn → List ℕ
 further_entries columns [] = []
-further_entries columns (e ∷ es) = (codes ", " ++ entry_text columns e) ++ further_entries columns es
+further_entries columns (e ∷ es) = (codes ", " ++ entry_text columns e)
+    ++ further_entries columns es
 
 -- the columns with a comma and a space between
 abbrev pub column_text : List Column → List IndexColumn → List ℕ

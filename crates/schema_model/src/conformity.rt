@@ -51,7 +51,8 @@ fn is_within(value: &Value) -> bool
 
 /// Whether affinity INTEGER or NUMERIC leaves a value as it is.
 fn is_narrow(value: &Value) -> bool
-    ensures { (result ≡ true) ↔ (narrowed (with_text_read (plain_value value.now)) ≡ plain_value value.now) }
+    ensures { (result ≡ true) ↔ (narrowed (with_text_read (plain_value value.now))
+        ≡ plain_value value.now) }
 {
     match value {
         Value::Dec(units) => *units % 10000 != 0,
@@ -62,7 +63,8 @@ fn is_narrow(value: &Value) -> bool
 
 /// Whether affinity REAL leaves a value as it is.
 fn is_wide(value: &Value) -> bool
-    ensures { (result ≡ true) ↔ (widened (with_text_read (plain_value value.now)) ≡ plain_value value.now) }
+    ensures { (result ≡ true) ↔ (widened (with_text_read (plain_value value.now))
+        ≡ plain_value value.now) }
 {
     match value {
         Value::Int(number) => number.unsigned_abs() >= 100_000_000_000,
@@ -122,7 +124,8 @@ fn alias_holds(alias: Option<u32>, row: &Row) -> bool
 }
 
 fn is_rowid(values: &[Value], number: usize, rowid: i64) -> bool
-    ensures { (result ≡ true) ↔ (slice_index_or (map plain_value values.now) number plain.Null ≡ plain.Int rowid) }
+    ensures { (result ≡ true) ↔ (slice_index_or (map plain_value values.now) number plain.Null
+        ≡ plain.Int rowid) }
 {
     match values.get(number) {
         Some(Value::Int(held)) => *held == rowid,
@@ -149,7 +152,8 @@ fn are_held_rows(table: &Table, rows: &[Row]) -> bool
 }
 
 fn follows(last: Option<&Row>, row: &Row) -> bool
-    ensures { result ≡ meant.follows (option_map (λ before. before.now.rowid) last.entry) row.now.rowid }
+    ensures { result ≡ meant.follows (option_map (λ before. before.now.rowid) last.entry)
+        row.now.rowid }
 {
     match last {
         Some(before) => before.rowid < row.rowid,

@@ -76,7 +76,8 @@ impl Names {
 
     /// Takes the last name away.
     pub fn forget(&mut self)
-        ensures { (n : List ℕ) → (rest : List (List ℕ)) → self.old ≡ rest ++ n ∷ [] → self.new ≡ rest }
+        ensures { (n : List ℕ) → (rest : List (List ℕ)) → self.old ≡ rest ++ n ∷ []
+            → self.new ≡ rest }
     {
         let _ = self.keys.pop();
     }

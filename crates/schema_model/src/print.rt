@@ -137,7 +137,8 @@ fn append_further(
     entries: &[IndexColumn],
 ) -> Result<(), Memory>
     requires { text.AreInTable columns.now entries.now }
-    ensures { OnOk result (written.new ≡ written.old ++ text.further_entries columns.now entries.now) }
+    ensures { OnOk result (written.new ≡ written.old
+        ++ text.further_entries columns.now entries.now) }
 {
     for entry in entries {
         written.append(b", ")?;
@@ -168,7 +169,8 @@ pub fn append_columns(
 /// (<https://sqlite.org/lang_createindex.html>).
 pub fn print_create(alloc: Global, schema: &Schema, index: &Index) -> Result<Bytes, Memory>
     requires table { index.now.table < length schema.now.tables }
-    requires columns { text.AreInTable (columns_at schema.now.tables index.now.table) index.now.columns }
+    requires columns { text.AreInTable (columns_at schema.now.tables index.now.table)
+        index.now.columns }
     ensures { IfOk result (λ written. written ≡ text.create_text schema.now index.now) }
 {
     let table = schema.table(index.table);

@@ -32,7 +32,8 @@ number_entry text negative token = number_of_kind token.kind text negative token
 
 abbrev pub signed_entry : List ℕ → Token → Token → Option Value
 signed_entry text sign token =
-    cond (is_mark text 45 sign) (number_entry text true token) (cond (is_mark text 43 sign) (number_entry text false token) None)
+    cond (is_mark text 45 sign) (number_entry text true token)
+        (cond (is_mark text 43 sign) (number_entry text false token) None)
 
 -- NULL, a text, a blob, or a number with a sign or without
 abbrev pub entry_value : List ℕ → List Token → Option Value
@@ -41,11 +42,13 @@ entry_value text (sign ∷ t ∷ []) = signed_entry text sign t
 entry_value text _ = None
 
 abbrev pub column_value : List ℕ → Column → List Token → Option Value
-column_value text column part = option_map (λ v. converted (plain_affinity column.affinity) v) (entry_value text part)
+column_value text column part = option_map (λ v. converted (plain_affinity column.affinity) v)
+    (entry_value text part)
 
 -- a value for each column, converted by it
 abbrev pub row_values : List ℕ → List Column → List (List Token) → Option (List Value)
 row_values text [] [] = Some []
 row_values text [] (part ∷ parts) = None
 row_values text (column ∷ columns) [] = None
-row_values text (column ∷ columns) (part ∷ parts) = with_first (column_value text column part) (row_values text columns parts)
+row_values text (column ∷ columns) (part ∷ parts) =
+    with_first (column_value text column part) (row_values text columns parts)

@@ -31,13 +31,15 @@ nothing_behind table enclosed (t ∷ ts) = None
 
 abbrev pub values_of : List ℕ → Named → Option InsertHead
 values_of text table =
-    option_and_then (λ a. option_and_then (λ enclosed. nothing_behind table.name enclosed enclosed.rest) (first_enclosed text a))
+    option_and_then (λ a. option_and_then
+        (λ enclosed. nothing_behind table.name enclosed enclosed.rest) (first_enclosed text a))
     (after_word text (codes "values") table.rest)
 
 -- INSERT INTO, a name, VALUES, a list in parentheses, and nothing behind
 abbrev pub insert_head : List ℕ → List Token → Option InsertHead
 insert_head text ts =
-    option_and_then (λ a. option_and_then (λ b. option_and_then (λ table. values_of text table) (first_name b))
+    option_and_then (λ a. option_and_then
+        (λ b. option_and_then (λ table. values_of text table) (first_name b))
     (after_word text (codes "into") a)) (after_word text (codes "insert") ts)
 
 -- an empty list has no entries
@@ -66,7 +68,8 @@ with_rowid (Some number) values rowid = slice_set values number (Int rowid)
 abbrev pub keep_row : State → ℕ → Option ℕ → List Value → ℤ → State
 keep_row d number alias values rowid =
     cond (has_rowid rowid (slice_index_or d.rows number [])) (pass_row d)
-    (record d { rows = slice_set d.rows number (inserted_row rowid (with_rowid alias values rowid) (slice_index_or d.rows number [])) })
+    (record d { rows = slice_set d.rows number
+        (inserted_row rowid (with_rowid alias values rowid) (slice_index_or d.rows number [])) })
 
 abbrev pub keep_row_at : State → ℕ → Option ℕ → List Value → Option ℤ → State
 keep_row_at d number alias values None = pass_row d
@@ -75,7 +78,8 @@ keep_row_at d number alias values (Some rowid) = keep_row d number alias values 
 -- a row is kept under its rowid, unless that is there; without one it is passed over
 abbrev pub place_row : State → ℕ → Option ℕ → List Value → State
 place_row d number alias values =
-    keep_row_at d number alias values (rowid_of alias values (next_rowid (slice_index_or d.rows number [])))
+    keep_row_at d number alias values (rowid_of alias values
+        (next_rowid (slice_index_or d.rows number [])))
 
 abbrev pub place_values : State → ℕ → Option ℕ → Option (List Value) → State
 place_values d number alias None = pass_row d
@@ -83,7 +87,8 @@ place_values d number alias (Some values) = place_row d number alias values
 
 abbrev pub insert_into : List ℕ → State → ℕ → List (List Token) → Option Table → State
 insert_into text d number parts None = d
-insert_into text d number parts (Some table) = place_values d number table.alias (row_values text table.columns parts)
+insert_into text d number parts (Some table) =
+    place_values d number table.alias (row_values text table.columns parts)
 
 abbrev pub insert_row : List ℕ → State → ℕ → List (List Token) → State
 insert_row text d number parts = insert_into text d number parts (slice_get d.schema.tables number)
@@ -106,7 +111,8 @@ optional_text_entry text part = only_optional_text (entry_value text part)
 abbrev pub given_of_three : List ℕ → List Token → List Token → List Token → Option Given
 given_of_three text a b c =
     option_and_then (λ table. option_and_then (λ index. option_and_then (λ stat.
-    Some (record { table = table; index = index; stat = stat })) (text_entry text c)) (optional_text_entry text b)) (text_entry text a)
+    Some (record { table = table; index = index; stat = stat })) (text_entry text c))
+        (optional_text_entry text b)) (text_entry text a)
 
 -- a text, a text or NULL, and a text
 abbrev pub given_of : List ℕ → List (List Token) → Option Given
@@ -121,7 +127,8 @@ abbrev pub is_figures_name : List ℕ → Bool
 is_figures_name folded = same_word folded (codes "sqlite_stat1")
 
 abbrev pub insert_other : List ℕ → State → List ℕ → List (List Token) → State
-insert_other text d folded parts = cond (is_figures_name folded) (keep_given d (given_of text parts)) (pass_statement d)
+insert_other text d folded parts = cond (is_figures_name folded)
+    (keep_given d (given_of text parts)) (pass_statement d)
 
 abbrev pub insert_found : List ℕ → State → List ℕ → List (List Token) → Found → State
 insert_found text d folded parts (Read number) = insert_row text d number parts

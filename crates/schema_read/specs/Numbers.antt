@@ -9,7 +9,8 @@ some_digits (d ∷ ds) = d ∷ ds
 
 -- a digit at least on both sides of the point, and no further zeros at the end
 abbrev pub pointed_text : List ℕ → List ℕ → List ℕ
-pointed_text whole fraction = some_digits whole ++ (46 ∷ []) ++ some_digits (without_trailing 48 fraction)
+pointed_text whole fraction = some_digits whole ++ (46 ∷ [])
+    ++ some_digits (without_trailing 48 fraction)
 
 abbrev pub is_point : ℕ → Bool
 is_point byte = byte == 46

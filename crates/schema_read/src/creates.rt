@@ -41,7 +41,8 @@ fn create_named(
     named: Named,
 ) -> Result<(), Memory>
     requires { is_refused state.old.schema name ≡ false }
-    ensures { OnOk result (state.new ≡ meant.create_named text.now state.old name (seen_named named.entry)) }
+    ensures { OnOk result (state.new ≡ meant.create_named text.now state.old name
+        (seen_named named.entry)) }
 {
     match read_table(alloc, text, named)? {
         Some(made) => keep_table(alloc, state, made),
@@ -56,7 +57,8 @@ pub(crate) fn apply_table(
     state: &mut State,
     named: Named,
 ) -> Result<(), Memory>
-    ensures { OnOk result (state.new ≡ meant.apply_table text.now state.old (seen_named named.entry)) }
+    ensures { OnOk result (state.new ≡ meant.apply_table text.now state.old
+        (seen_named named.entry)) }
 {
     let name = token_value(alloc, text, named.name)?;
     if is_refused(alloc, &state.schema, name.as_slice())? {
@@ -72,7 +74,8 @@ pub(crate) fn apply_unread(
     state: &mut State,
     named: Named,
 ) -> Result<(), Memory>
-    ensures { OnOk result (state.new ≡ meant.apply_unread text.now state.old (seen_named named.entry)) }
+    ensures { OnOk result (state.new ≡ meant.apply_unread text.now state.old
+        (seen_named named.entry)) }
 {
     let name = token_value(alloc, text, named.name)?;
     if is_refused(alloc, &state.schema, name.as_slice())? {
@@ -110,7 +113,8 @@ fn usable_columns(
     columns: &Columns,
     head: IndexHead,
 ) -> Result<Option<IndexColumns>, Memory>
-    ensures { IfOk result (λ found. found ≡ meant.usable_columns text.now columns.now (seen_index_head head.entry)) }
+    ensures { IfOk result (λ found. found
+        ≡ meant.usable_columns text.now columns.now (seen_index_head head.entry)) }
 {
     if head.partial {
         return Ok(None);
@@ -153,7 +157,8 @@ fn keep_index(
     number: u32,
     head: IndexHead,
 ) -> Result<(), Memory>
-    ensures { OnOk result (state.new ≡ meant.keep_index text.now state.old number (seen_index_head head.entry)) }
+    ensures { OnOk result (state.new ≡ meant.keep_index text.now state.old number
+        (seen_index_head head.entry)) }
 {
     let name = token_value(alloc, text, head.name)?;
     if is_refused(alloc, &state.schema, name.as_slice())? {
@@ -175,7 +180,8 @@ pub(crate) fn apply_index(
     state: &mut State,
     head: IndexHead,
 ) -> Result<(), Memory>
-    ensures { OnOk result (state.new ≡ meant.apply_index text.now state.old (seen_index_head head.entry)) }
+    ensures { OnOk result (state.new ≡ meant.apply_index text.now state.old
+        (seen_index_head head.entry)) }
 {
     let table = token_value(alloc, text, head.table)?;
     let folded = fold(alloc, table.as_slice())?;

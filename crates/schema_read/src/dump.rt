@@ -101,7 +101,8 @@ fn read_statements(
     tokens: &[Token],
     spans: &[Span],
 ) -> Result<State, Memory>
-    ensures { IfOk result (λ state. state ≡ fold (meant.step_span text.now tokens.now) meant.empty spans.now) }
+    ensures { IfOk result (λ state. state
+        ≡ fold (meant.step_span text.now tokens.now) meant.empty spans.now) }
 {
     let mut state = State::new(alloc)?;
     for span in spans {
@@ -115,7 +116,8 @@ fn read_statements(
 fn read_text(alloc: Global, text: &[u8]) -> Result<State, Memory>
     requires { length text.now < 2 ^ 32 }
     ensures same { IfOk result (λ state. state ≡ meant.dump_of text.now) }
-    ensures few { IfOk result (λ state. length (statements_of text.now (tokens_of text.now)) < 2 ^ 32) }
+    ensures few { IfOk result (λ state. length
+        (statements_of text.now (tokens_of text.now)) < 2 ^ 32) }
 {
     let tokens = lex(alloc, text)?;
     if tokens.as_slice().len() >= 1 << 32 {
@@ -158,7 +160,8 @@ pub fn read_dump(alloc: Global, text: &[u8]) -> Result<Dump, ReadDumpFault>
     ensures same { IfOk result (λ dump. meant.seen_dump dump ≡ meant.dump_of text.now) }
     ensures conforms { IfOk result (λ dump. IsDatabase dump.schema dump.rows) }
     ensures rows { IfOk result (λ dump. AllByRecursion (λ rows. length rows < 2 ^ 32) dump.rows) }
-    ensures unusable { IfOk result (λ dump. AllByRecursion IsEmptyUnlessUsable dump.schema.indexes) }
+    ensures unusable { IfOk result (λ dump. AllByRecursion IsEmptyUnlessUsable
+        dump.schema.indexes) }
     ensures few { IfOk result (λ dump. meant.table_total dump.schema ≤ 1000) }
     ensures room { IfOk result (λ dump. size dump.schema < 10 ^ 9) }
     ensures fault { IfErr result (meant.IsFaultOf (meant.dump_of text.now)) }

@@ -12,7 +12,8 @@ use std::alloc::Global;
 
 /// The value of a token: NULL, a text, a blob or a number without a sign.
 fn plain_entry(alloc: Global, text: &[u8], token: Token) -> Result<Option<Value>, Memory>
-    ensures { IfOk result (λ value. option_map plain_value value ≡ meant.token_entry text.now token) }
+    ensures { IfOk result (λ value. option_map plain_value value
+        ≡ meant.token_entry text.now token) }
 {
     match token.kind {
         TokenKind::Text => Ok(Some(Value::Text(token_value(alloc, text, token)?))),
@@ -35,7 +36,8 @@ fn number_entry(
     negative: bool,
     token: Token,
 ) -> Result<Option<Value>, Memory>
-    ensures { IfOk result (λ value. option_map plain_value value ≡ meant.number_entry text.now negative token) }
+    ensures { IfOk result (λ value. option_map plain_value value
+        ≡ meant.number_entry text.now negative token) }
 {
     match token.kind {
         TokenKind::Number => number_value(alloc, negative, token_text(text, token)),
@@ -50,7 +52,8 @@ fn signed_entry(
     sign: Token,
     token: Token,
 ) -> Result<Option<Value>, Memory>
-    ensures { IfOk result (λ value. option_map plain_value value ≡ meant.signed_entry text.now sign token) }
+    ensures { IfOk result (λ value. option_map plain_value value
+        ≡ meant.signed_entry text.now sign token) }
 {
     if is_mark(text, b'-', sign) {
         number_entry(alloc, text, true, token)
@@ -68,7 +71,8 @@ pub(crate) fn entry_value(
     text: &[u8],
     part: &[Token],
 ) -> Result<Option<Value>, Memory>
-    ensures { IfOk result (λ value. option_map plain_value value ≡ meant.entry_value text.now part.now) }
+    ensures { IfOk result (λ value. option_map plain_value value
+        ≡ meant.entry_value text.now part.now) }
 {
     match part {
         [only] => plain_entry(alloc, text, *only),
@@ -84,7 +88,8 @@ fn column_value(
     column: &Column,
     part: &[Token],
 ) -> Result<Option<Value>, Memory>
-    ensures { IfOk result (λ value. option_map plain_value value ≡ meant.column_value text.now column.now part.now) }
+    ensures { IfOk result (λ value. option_map plain_value value
+        ≡ meant.column_value text.now column.now part.now) }
 {
     match entry_value(alloc, text, part)? {
         Some(value) => Ok(Some(convert(alloc, column.affinity, value)?)),
@@ -100,7 +105,8 @@ pub(crate) fn row_values(
     columns: &[Column],
     parts: &[&[Token]],
 ) -> Result<Option<Vec<Value>>, Memory>
-    ensures { IfOk result (λ values. option_map (λ v. map plain_value v.items) values ≡ meant.row_values text.now columns.now (map (λ part. part.now) parts.now)) }
+    ensures { IfOk result (λ values. option_map (λ v. map plain_value v.items) values
+        ≡ meant.row_values text.now columns.now (map (λ part. part.now) parts.now)) }
 {
     if columns.len() != parts.len() {
         return Ok(None);

@@ -30,7 +30,8 @@ pub(crate) fn insert_head<'t>(text: &[u8], tokens: &'t [Token]) -> Option<Insert
 }
 
 fn values_of<'t>(text: &[u8], table: Named<'t>) -> Option<InsertHead<'t>>
-    ensures { option_map meant.seen_insert result ≡ meant.values_of text.now (seen_named table.entry) }
+    ensures { option_map meant.seen_insert result
+        ≡ meant.values_of text.now (seen_named table.entry) }
 {
     let behind_values = after_word(text, b"values", table.rest)?;
     let enclosed = first_enclosed(text, behind_values)?;
@@ -45,7 +46,8 @@ fn values_of<'t>(text: &[u8], table: Named<'t>) -> Option<InsertHead<'t>>
 
 /// The entries of a list, which may be empty.
 fn entries_of<'t>(alloc: Global, text: &[u8], list: &'t [Token]) -> Result<Vec<&'t [Token]>, Memory>
-    ensures { IfOk result (λ parts. map (λ part. part.now) parts.items ≡ meant.entries_of text.now list.now) }
+    ensures { IfOk result (λ parts. map (λ part. part.now) parts.items
+        ≡ meant.entries_of text.now list.now) }
 {
     if list.is_empty() {
         return Ok(Vec::new(alloc));
@@ -90,7 +92,8 @@ fn put_value(values: Vec<Value>, place: usize, value: Value) -> Vec<Value>
 
 /// The alias column holds the rowid.
 fn with_rowid(alias: Option<u32>, values: Vec<Value>, rowid: i64) -> Vec<Value>
-    ensures { map plain_value result.items ≡ meant.with_rowid alias (map plain_value values.items) rowid }
+    ensures { map plain_value result.items
+        ≡ meant.with_rowid alias (map plain_value values.items) rowid }
 {
     match alias {
         Some(number) => put_value(values, number as usize, Value::Int(rowid)),
@@ -105,7 +108,8 @@ fn place_row(
     alias: Option<u32>,
     values: Vec<Value>,
 ) -> Result<(), Memory>
-    ensures { OnOk result (state.new ≡ meant.place_row state.old table alias (map plain_value values.items)) }
+    ensures { OnOk result (state.new ≡ meant.place_row state.old table alias
+        (map plain_value values.items)) }
 {
     let next = state.rows.next_rowid(table);
     let Some(rowid) = rowid_of(alias, values.as_slice(), next) else {
@@ -127,7 +131,8 @@ fn insert_row(
     number: u32,
     parts: &[&[Token]],
 ) -> Result<(), Memory>
-    ensures { OnOk result (state.new ≡ meant.insert_row text.now state.old number (map (λ part. part.now) parts.now)) }
+    ensures { OnOk result (state.new ≡ meant.insert_row text.now state.old number
+        (map (λ part. part.now) parts.now)) }
 {
     if number >= state.schema.table_count() {
         return Ok(());
@@ -167,7 +172,8 @@ fn optional_text_entry(
 
 /// The figures that three entries are: a text, a text or NULL, and a text.
 fn read_given(alloc: Global, text: &[u8], parts: &[&[Token]]) -> Result<Option<Given>, Memory>
-    ensures { IfOk result (λ given. given ≡ meant.given_of text.now (map (λ part. part.now) parts.now)) }
+    ensures { IfOk result (λ given. given
+        ≡ meant.given_of text.now (map (λ part. part.now) parts.now)) }
 {
     match parts {
         [first, second, third] => read_three(alloc, text, first, second, third),
@@ -182,7 +188,8 @@ fn read_three(
     second: &[Token],
     third: &[Token],
 ) -> Result<Option<Given>, Memory>
-    ensures { IfOk result (λ given. given ≡ meant.given_of_three text.now first.now second.now third.now) }
+    ensures { IfOk result (λ given. given
+        ≡ meant.given_of_three text.now first.now second.now third.now) }
 {
     let Some(table) = text_entry(alloc, text, first)? else {
         return Ok(None);
@@ -205,7 +212,8 @@ fn insert_other(
     folded: &[u8],
     parts: &[&[Token]],
 ) -> Result<(), Memory>
-    ensures { OnOk result (state.new ≡ meant.insert_other text.now state.old folded.now (map (λ part. part.now) parts.now)) }
+    ensures { OnOk result (state.new ≡ meant.insert_other text.now state.old folded.now
+        (map (λ part. part.now) parts.now)) }
 {
     if !is_figures_name(folded) {
         return pass_statement(state);
@@ -229,7 +237,8 @@ pub(crate) fn apply_insert(
     state: &mut State,
     head: InsertHead,
 ) -> Result<(), Memory>
-    ensures { OnOk result (state.new ≡ meant.apply_insert text.now state.old (meant.seen_insert head.entry)) }
+    ensures { OnOk result (state.new ≡ meant.apply_insert text.now state.old
+        (meant.seen_insert head.entry)) }
 {
     let name = token_value(alloc, text, head.table)?;
     let folded = fold(alloc, name.as_slice())?;

@@ -64,7 +64,8 @@ pub(crate) fn number_value(
     negative: bool,
     bytes: &[u8],
 ) -> Result<Option<Value>, Memory>
-    ensures { IfOk result (λ value. option_map plain_value value ≡ meant.number_value negative bytes.now) }
+    ensures { IfOk result (λ value. option_map plain_value value
+        ≡ meant.number_value negative bytes.now) }
 {
     let mut written = Bytes::new(alloc);
     if negative {

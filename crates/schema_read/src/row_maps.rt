@@ -63,7 +63,8 @@ impl RowMap {
     }
 
     fn insert(&mut self, rowid: i64, values: Vec<Value>) -> Result<(), Memory>
-        ensures ok { OnOk result (self.new ≡ insert_row rowid (map plain_value values.items) self.old) }
+        ensures ok { OnOk result (self.new
+            ≡ insert_row rowid (map plain_value values.items) self.old) }
         ensures err { OnErr result (self.new ≡ self.old) }
     {
         let Ok(_) = self.rows.insert(rowid, values) else {
@@ -144,7 +145,8 @@ impl RowMaps {
         rowid: i64,
         values: Vec<Value>,
     ) -> Result<(), Memory>
-        ensures { OnOk result (self.new ≡ slice_set self.old table (insert_row rowid (map plain_value values.items) (slice_index_or self.old table []))) }
+        ensures { OnOk result (self.new ≡ slice_set self.old table
+            (insert_row rowid (map plain_value values.items) (slice_index_or self.old table []))) }
     {
         let number = table as usize;
         if number < self.held.as_slice().len() {

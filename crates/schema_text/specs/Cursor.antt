@@ -20,7 +20,8 @@ abbrev pub past_word : List ℕ → List ℕ → List Token → List Token
 past_word text word ts = unwrap_or (after_word text word ts) ts
 
 abbrev pub past_temporary : List ℕ → List Token → List Token
-past_temporary text ts = unwrap_or (after_word text (codes "temp") ts) (past_word text (codes "temporary") ts)
+past_temporary text ts = unwrap_or (after_word text (codes "temp") ts)
+    (past_word text (codes "temporary") ts)
 
 abbrev pub after_if_not_exists : List ℕ → List Token → Option (List Token)
 after_if_not_exists text ts =

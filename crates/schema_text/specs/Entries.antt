@@ -20,7 +20,8 @@ abbrev pub begins_desc : List ℕ → List Token → Bool
 begins_desc text ts = is_some (after_word text (codes "desc") ts)
 
 abbrev pub past_direction : List ℕ → List Token → List Token
-past_direction text ts = unwrap_or (after_word text (codes "asc") ts) (past_word text (codes "desc") ts)
+past_direction text ts = unwrap_or (after_word text (codes "asc") ts)
+    (past_word text (codes "desc") ts)
 
 abbrev pub past_autoincrement : List ℕ → Bool → List Token → List Token
 past_autoincrement text may ts = if may then past_word text (codes "autoincrement") ts else ts
@@ -31,7 +32,8 @@ entry_unless entry (t ∷ ts) = None
 
 abbrev pub entry_after : List ℕ → Bool → Named → Option EntryText
 entry_after text may named =
-    entry_unless (record { name = named.name; coll = collation_here text named.rest; desc = begins_desc text (past_collation text named.rest) })
+    entry_unless (record { name = named.name; coll = collation_here text named.rest;
+        desc = begins_desc text (past_collation text named.rest) })
     (past_autoincrement text may (past_direction text (past_collation text named.rest)))
 
 -- a name, COLLATE and a name or not, ASC or DESC or neither, and AUTOINCREMENT where it may stand
@@ -45,8 +47,10 @@ entry_collation text (Some t) = option_map (λ coll. Some coll) (collation_at te
 -- the column of an entry, where it and its collation are known
 abbrev pub key_column : List ℕ → List Column → EntryText → Option KeyColumn
 key_column text columns entry =
-    option_and_then (λ number. option_map (λ coll. record { column = number; coll = coll; desc = entry.desc })
-    (entry_collation text entry.coll)) (position (has_column_name (folded_bytes (value_of text entry.name))) columns)
+    option_and_then (λ number. option_map
+        (λ coll. record { column = number; coll = coll; desc = entry.desc })
+    (entry_collation text entry.coll)) (position
+        (has_column_name (folded_bytes (value_of text entry.name))) columns)
 
 abbrev pub is_last : List (List Token) → Bool
 is_last [] = true
@@ -55,7 +59,8 @@ is_last _ = false
 -- all entries; AUTOINCREMENT may stand in the last one, where it may stand at all
 abbrev pub entries_of : List ℕ → Bool → List (List Token) → Option (List EntryText)
 entries_of text may [] = Some []
-entries_of text may (part ∷ parts) = with_first (entry_of text (may && is_last parts) part) (entries_of text may parts)
+entries_of text may (part ∷ parts) = with_first (entry_of text (may && is_last parts) part)
+    (entries_of text may parts)
 
 abbrev pub key_columns : List ℕ → List Column → List EntryText → Option (List KeyColumn)
 key_columns text columns entries = traverse (key_column text columns) entries

@@ -18,7 +18,8 @@ use Rattle.schema_text.specs.declared.keys.KeyMark.{KeyMark}
 use Rattle.schema_text.specs.declared.keys.KeyList as code
 
 abbrev pub primary_mark : List ℕ → List Token → Option KeyMark
-primary_mark text ts = option_and_then (λ rest. Some (record { primary = true; desc = begins_desc text rest })) (after_word text (codes "key") ts)
+primary_mark text ts = option_and_then (λ rest. Some
+    (record { primary = true; desc = begins_desc text rest })) (after_word text (codes "key") ts)
 
 -- PRIMARY KEY, with DESC or not, or UNIQUE
 abbrev pub key_mark : List ℕ → List Token → Option KeyMark
@@ -30,7 +31,8 @@ key_mark text (t ∷ ts) =
 abbrev pub marked_key : ℕ → Option KeyMark → List Key
 marked_key number None = []
 marked_key number (Some mark) =
-    record { primary = mark.primary; own = true; columns = record { column = number; coll = None; desc = mark.desc } ∷ [] } ∷ []
+    record { primary = mark.primary; own = true;
+        columns = record { column = number; coll = None; desc = mark.desc } ∷ [] } ∷ []
 
 abbrev pub own_key : List ℕ → ℕ → ℕ → List Token → List Key
 own_key text number level ts = cond (level == 0) (marked_key number (key_mark text ts)) []
@@ -59,7 +61,8 @@ is_constraint text [] = false
 is_constraint text (t ∷ ts) = is_constraint_terminal (terminal_of text t)
 
 abbrev pub past_constraint_name : List ℕ → List Token → List Token
-past_constraint_name text (a ∷ b ∷ ts) = cond (is_word text (codes "constraint") a && is_name b) ts (a ∷ b ∷ ts)
+past_constraint_name text (a ∷ b ∷ ts) = cond (is_word text (codes "constraint") a && is_name b) ts
+    (a ∷ b ∷ ts)
 past_constraint_name text ts = ts
 
 pub record KeyList : Type 0 where
@@ -70,33 +73,40 @@ abbrev pub seen_key_list : code.KeyList → KeyList
 seen_key_list k = record { primary = k.primary; list = k.list.now }
 
 abbrev pub after_primary_key : List ℕ → List Token → Option (List Token)
-after_primary_key text ts = option_and_then (λ rest. after_word text (codes "key") rest) (after_word text (codes "primary") ts)
+after_primary_key text ts = option_and_then (λ rest. after_word text (codes "key") rest)
+    (after_word text (codes "primary") ts)
 
 abbrev pub list_behind : List ℕ → Bool → List Token → Option KeyList
 list_behind text primary ts =
-    option_and_then (λ enclosed. Some (record { primary = primary; list = enclosed.inside })) (first_enclosed text ts)
+    option_and_then (λ enclosed. Some (record { primary = primary; list = enclosed.inside }))
+        (first_enclosed text ts)
 
 abbrev pub key_list_after : List ℕ → List Token → Option (List Token) → Option KeyList
 key_list_after text ts (Some rest) = list_behind text true rest
-key_list_after text ts None = option_and_then (λ rest. list_behind text false rest) (after_word text (codes "unique") ts)
+key_list_after text ts None = option_and_then (λ rest. list_behind text false rest)
+    (after_word text (codes "unique") ts)
 
 -- PRIMARY KEY or UNIQUE, and its list
 abbrev pub key_list : List ℕ → List Token → Option KeyList
 key_list text ts = key_list_after text ts (after_primary_key text ts)
 
-abbrev pub keys_of_entries : List ℕ → List Column → Bool → Option (List EntryText) → Option (List Key)
+abbrev pub keys_of_entries : List ℕ → List Column → Bool → Option (List EntryText)
+    → Option (List Key)
 keys_of_entries text columns primary None = Some []
 keys_of_entries text columns primary (Some entries) =
-    option_map (λ found. record { primary = primary; own = false; columns = found } ∷ []) (key_columns text columns entries)
+    option_map (λ found. record { primary = primary; own = false; columns = found } ∷ [])
+        (key_columns text columns entries)
 
 abbrev pub keys_of_list : List ℕ → List Column → Option KeyList → Option (List Key)
 keys_of_list text columns None = Some []
 keys_of_list text columns (Some front) =
-    keys_of_entries text columns front.primary (entries_of text front.primary (parts_of text front.list))
+    keys_of_entries text columns front.primary
+        (entries_of text front.primary (parts_of text front.list))
 
 -- the key of a table's constraint, if it counts; nothing where a column or a collation isn't known
 abbrev pub table_keys : List ℕ → List Column → List Token → Option (List Key)
-table_keys text columns item = keys_of_list text columns (key_list text (past_constraint_name text item))
+table_keys text columns item = keys_of_list text columns
+    (key_list text (past_constraint_name text item))
 
 abbrev pub behind_name : List Token → List Token
 behind_name [] = []
@@ -104,7 +114,8 @@ behind_name (t ∷ ts) = ts
 
 abbrev pub item_keys : List ℕ → List Column → ℕ → List Token → Option (List Key)
 item_keys text columns number item =
-    cond (is_constraint text item) (table_keys text columns item) (Some (own_keys text number 0 (column_rest text (behind_name item))))
+    cond (is_constraint text item) (table_keys text columns item)
+        (Some (own_keys text number 0 (column_rest text (behind_name item))))
 
 abbrev pub next_number : List ℕ → ℕ → List Token → ℕ
 next_number text number item = cond (is_constraint text item) number (number + 1)
@@ -113,5 +124,6 @@ next_number text number item = cond (is_constraint text item) number (number + 1
 abbrev pub keys_of : List ℕ → List Column → ℕ → List (List Token) → Option (List Key)
 keys_of text columns number [] = Some []
 keys_of text columns number (item ∷ items) =
-    option_and_then (λ added. option_map (λ rest. added ++ rest) (keys_of text columns (next_number text number item) items))
+    option_and_then (λ added. option_map (λ rest. added ++ rest)
+        (keys_of text columns (next_number text number item) items))
     (item_keys text columns number item)

@@ -20,12 +20,14 @@ use Rattle.schema_text.specs.declared.table_texts.TableText.{TableText}
 -- at most 2,000 columns, of names that differ
 abbrev pub with_column : List Column → Column → Option (List Column)
 with_column columns column =
-    cond (nat_le 2000 (length columns) || is_some (position (has_column_name (folded_bytes column.name)) columns)) None
+    cond (nat_le 2000 (length columns) || is_some
+        (position (has_column_name (folded_bytes column.name)) columns)) None
     (Some (columns ++ column ∷ []))
 
 abbrev pub with_item : List ℕ → List Column → List Token → Option (List Column)
 with_item text columns item =
-    cond (is_constraint text item) (Some columns) (option_and_then (λ column. with_column columns column) (column_of text item))
+    cond (is_constraint text item) (Some columns)
+        (option_and_then (λ column. with_column columns column) (column_of text item))
 
 abbrev pub columns_from : List ℕ → List Column → List (List Token) → Option (List Column)
 columns_from text columns [] = Some columns
@@ -40,7 +42,8 @@ abbrev pub is_of_type : List ℕ → List ℕ → List Token → Bool
 is_of_type text name item = same_word (declared_type text (behind_name item)) name
 
 abbrev pub integer_flag : List ℕ → List Token → List Bool
-integer_flag text item = cond (is_constraint text item) [] (is_of_type text (codes "integer") item ∷ [])
+integer_flag text item = cond (is_constraint text item) []
+    (is_of_type text (codes "integer") item ∷ [])
 
 -- for each column whether its type is exactly INTEGER
 abbrev pub integer_flags : List ℕ → List (List Token) → List Bool
@@ -60,13 +63,15 @@ is_strict text _ = false
 -- STRICT, once or more with commas between, or nothing; nothing else is read
 abbrev pub table_options : List ℕ → List Token → Option Bool
 table_options text [] = Some false
-table_options text (t ∷ ts) = cond (list_all (is_strict text) (parts_of text (t ∷ ts))) (Some true) None
+table_options text (t ∷ ts) = cond (list_all (is_strict text) (parts_of text (t ∷ ts)))
+    (Some true) None
 
 abbrev pub flag_at : List Bool → ℕ → Bool
 flag_at flags number = unwrap_or (slice_get flags number) false
 
 abbrev pub alias_column : List Bool → Bool → KeyColumn → Option ℕ
-alias_column flags own column = cond (flag_at flags column.column && not (own && column.desc)) (Some column.column) None
+alias_column flags own column = cond (flag_at flags column.column && not (own && column.desc))
+    (Some column.column) None
 
 abbrev pub alias_of_columns : List Bool → Bool → List KeyColumn → Option ℕ
 alias_of_columns flags own (column ∷ []) = alias_column flags own column
@@ -86,7 +91,8 @@ with_alias columns (Some number) = as_rowid columns number
 
 abbrev pub made_table : List ℕ → Token → List Column → List Key → Option ℕ → TableText
 made_table text name columns keys alias =
-    record { table = record { name = value_of text name; columns = with_alias columns alias; alias = alias }; keys = keys }
+    record { table = record { name = value_of text name; columns = with_alias columns alias;
+        alias = alias }; keys = keys }
 
 abbrev pub table_of_items : List ℕ → Token → Bool → List (List Token) → Option TableText
 table_of_items text name strict items =
@@ -98,5 +104,6 @@ table_of_items text name strict items =
 -- the table from its name on, where it is read
 abbrev pub table_of : List ℕ → Named → Option TableText
 table_of text named =
-    option_and_then (λ enclosed. option_and_then (λ strict. table_of_items text named.name strict (parts_of text enclosed.inside))
+    option_and_then (λ enclosed. option_and_then
+        (λ strict. table_of_items text named.name strict (parts_of text enclosed.inside))
     (table_options text enclosed.rest)) (first_enclosed text named.rest)

@@ -150,7 +150,8 @@ pub fn read_entries(
     autoincrement: bool,
     parts: &[&[Token]],
 ) -> Result<Option<Items<EntryText>>, Memory>
-    ensures { IfOk result (λ entries. entries ≡ meant.entries_of text.now autoincrement (map (λ part. part.now) parts.now)) }
+    ensures { IfOk result (λ entries. entries
+        ≡ meant.entries_of text.now autoincrement (map (λ part. part.now) parts.now)) }
 {
     let mut entries = Items::new(alloc);
     for (place, part) in parts.iter().enumerate() {

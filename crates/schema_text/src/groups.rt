@@ -92,7 +92,8 @@ pub fn cut_at_commas<'t>(
     text: &[u8],
     tokens: &'t [Token],
 ) -> Result<Vec<&'t [Token]>, Memory>
-    ensures { IfOk result (λ parts. map (λ part. part.now) parts.items ≡ meant.parts_of text.now tokens.now) }
+    ensures { IfOk result (λ parts. map (λ part. part.now) parts.items
+        ≡ meant.parts_of text.now tokens.now) }
 {
     let mut parts = Vec::new(alloc);
     let mut start = 0;

@@ -61,7 +61,8 @@ pub struct IndexHead<'t> {
 
 /// What CREATE INDEX says.
 pub fn create_index_head<'t>(text: &[u8], tokens: &'t [Token]) -> Option<IndexHead<'t>>
-    ensures { option_map meant.seen_index_head result ≡ meant.create_index_head text.now tokens.now }
+    ensures { option_map meant.seen_index_head result
+        ≡ meant.create_index_head text.now tokens.now }
 {
     let behind_create = after_word(text, b"create", tokens)?;
     match after_word(text, b"unique", behind_create) {
@@ -71,7 +72,8 @@ pub fn create_index_head<'t>(text: &[u8], tokens: &'t [Token]) -> Option<IndexHe
 }
 
 fn index_head<'t>(text: &[u8], unique: bool, tokens: &'t [Token]) -> Option<IndexHead<'t>>
-    ensures { option_map meant.seen_index_head result ≡ meant.index_head text.now unique tokens.now }
+    ensures { option_map meant.seen_index_head result
+        ≡ meant.index_head text.now unique tokens.now }
 {
     let behind_index = after_word(text, b"index", tokens)?;
     let index = qualified_name(text, past_if_not_exists(text, behind_index))?;

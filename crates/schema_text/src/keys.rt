@@ -165,7 +165,8 @@ fn after_primary_key<'t>(text: &[u8], tokens: &'t [Token]) -> Option<&'t [Token]
 }
 
 fn list_behind<'t>(text: &[u8], primary: bool, tokens: &'t [Token]) -> Option<KeyList<'t>>
-    ensures { option_map meant.seen_key_list result ≡ meant.list_behind text.now primary tokens.now }
+    ensures { option_map meant.seen_key_list result
+        ≡ meant.list_behind text.now primary tokens.now }
 {
     let enclosed = first_enclosed(text, tokens)?;
     Some(KeyList {
@@ -197,7 +198,8 @@ fn append_table_key(
     keys: &mut Items<Key>,
 ) -> Result<bool, Memory>
     requires { length columns.now ≤ 2000 }
-    ensures { IfOk result (λ known. (if known then Some keys.new else None) ≡ option_map (λ added. keys.old ++ added) (meant.table_keys text.now columns.now item.now)) }
+    ensures { IfOk result (λ known. (if known then Some keys.new else None) ≡ option_map
+        (λ added. keys.old ++ added) (meant.table_keys text.now columns.now item.now)) }
 {
     let Some(front) = key_list(text, past_constraint_name(text, item)) else {
         return Ok(true);
@@ -237,7 +239,8 @@ fn append_item_keys(
     keys: &mut Items<Key>,
 ) -> Result<bool, Memory>
     requires { length columns.now ≤ 2000 }
-    ensures { IfOk result (λ known. (if known then Some keys.new else None) ≡ option_map (λ added. keys.old ++ added) (meant.item_keys text.now columns.now number item.now)) }
+    ensures { IfOk result (λ known. (if known then Some keys.new else None) ≡ option_map
+        (λ added. keys.old ++ added) (meant.item_keys text.now columns.now number item.now)) }
 {
     if is_constraint(text, item) {
         return append_table_key(alloc, text, columns, item, keys);
@@ -274,7 +277,8 @@ pub fn read_keys(
 ) -> Result<Option<Items<Key>>, Memory>
     requires few { length columns.now ≤ 2000 }
     requires small { length items.now < 2 ^ 32 }
-    ensures { IfOk result (λ keys. keys ≡ meant.keys_of text.now columns.now 0 (map (λ item. item.now) items.now)) }
+    ensures { IfOk result (λ keys. keys ≡ meant.keys_of text.now columns.now 0
+        (map (λ item. item.now) items.now)) }
 {
     let mut keys = Items::new(alloc);
     let mut number = 0;

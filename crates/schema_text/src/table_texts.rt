@@ -26,7 +26,8 @@ pub struct TableText {
 
 /// Appends a column, unless there are 2,000 or one of its name is there.
 fn add_column(alloc: Global, columns: &mut Columns, column: Column) -> Result<bool, Memory>
-    ensures { IfOk result (λ added. (if added then Some columns.new else None) ≡ meant.with_column columns.old column) }
+    ensures { IfOk result (λ added. (if added then Some columns.new else None)
+        ≡ meant.with_column columns.old column) }
 {
     let folded = fold(alloc, column.name.as_slice())?;
     if columns.as_slice().len() >= 2000 || columns.find(folded.as_slice()).is_some() {
@@ -43,7 +44,8 @@ fn add_item(
     columns: &mut Columns,
     item: &[Token],
 ) -> Result<bool, Memory>
-    ensures { IfOk result (λ added. (if added then Some columns.new else None) ≡ meant.with_item text.now columns.old item.now) }
+    ensures { IfOk result (λ added. (if added then Some columns.new else None)
+        ≡ meant.with_item text.now columns.old item.now) }
 {
     if is_constraint(text, item) {
         return Ok(true);
@@ -56,7 +58,8 @@ fn add_item(
 
 /// The columns of a table: none where it isn't read for one of them.
 fn read_columns(alloc: Global, text: &[u8], items: &[&[Token]]) -> Result<Option<Columns>, Memory>
-    ensures { IfOk result (λ columns. columns ≡ meant.columns_of text.now (map (λ item. item.now) items.now)) }
+    ensures { IfOk result (λ columns. columns
+        ≡ meant.columns_of text.now (map (λ item. item.now) items.now)) }
 {
     let mut columns = Columns::new(alloc);
     for item in items {
@@ -76,7 +79,8 @@ fn is_of_type(text: &[u8], name: &[u8], item: &[Token]) -> bool
 
 /// For each column whether its type is exactly INTEGER.
 fn integer_flags(alloc: Global, text: &[u8], items: &[&[Token]]) -> Result<Items<bool>, Memory>
-    ensures { IfOk result (λ flags. flags ≡ meant.integer_flags text.now (map (λ item. item.now) items.now)) }
+    ensures { IfOk result (λ flags. flags
+        ≡ meant.integer_flags text.now (map (λ item. item.now) items.now)) }
 {
     let mut flags = Items::new(alloc);
     for item in items {
@@ -225,7 +229,8 @@ fn finish_table(
     keys: Items<Key>,
 ) -> Result<TableText, Memory>
     requires { AreColumns columns }
-    ensures same { IfOk result (λ table. table ≡ meant.made_table text.now name columns keys alias) }
+    ensures same { IfOk result (λ table. table
+        ≡ meant.made_table text.now name columns keys alias) }
     ensures sound { IfOk result (λ table. IsTable table.table) }
 {
     if !is_within(alias, columns.as_slice().len()) {
@@ -258,7 +263,8 @@ fn read_items(
     strict: bool,
     items: &[&[Token]],
 ) -> Result<Option<TableText>, Memory>
-    ensures same { IfOk result (λ table. table ≡ meant.table_of_items text.now name strict (map (λ item. item.now) items.now)) }
+    ensures same { IfOk result (λ table. table
+        ≡ meant.table_of_items text.now name strict (map (λ item. item.now) items.now)) }
     ensures sound { IfOk result IsSoundOption }
 {
     if items.len() >= 1 << 32 {

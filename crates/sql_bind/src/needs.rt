@@ -54,7 +54,8 @@ fn mark(marks: &mut [bool], item: u32, expr: &BExpr)
 
 #[cycle(mark)]
 fn mark_all(marks: &mut [bool], item: u32, list: &BExprs)
-    ensures { Marks (λ column. some_names_column item column (members_of list.now)) marks.old marks.new }
+    ensures { Marks (λ column. some_names_column item column (members_of list.now)) marks.old
+        marks.new }
 {
     for member in list.members {
         mark(marks, item, member);
@@ -135,7 +136,8 @@ fn find_marks(alloc: Global, width: usize, item: u32, parts: &Parts) -> Result<V
 /// The columns of an item that the statement names.
 fn named_columns(alloc: Global, scope: &Scope, item: u32, parts: &Parts) -> Result<Vec<u32>, Memory>
     requires { item < length scope.now.items }
-    ensures { IfOk result (λ list. list.items ≡ columns_named scope.now (exprs_of_parts parts.now) item) }
+    ensures { IfOk result (λ list. list.items
+        ≡ columns_named scope.now (exprs_of_parts parts.now) item) }
 {
     let width = scope.table(item).columns.as_slice().len();
     let marks = find_marks(alloc, width, item, parts)?;
@@ -172,7 +174,8 @@ fn needed_columns(
     item: u32,
 ) -> Result<Vec<u32>, Memory>
     requires { item < length scope.now.items }
-    ensures { IfOk result (λ list. list.items ≡ needed_of scope.now rowids (exprs_of_parts parts.now) item) }
+    ensures { IfOk result (λ list. list.items
+        ≡ needed_of scope.now rowids (exprs_of_parts parts.now) item) }
 {
     if rowids {
         kept_columns(alloc, scope, item)

@@ -30,7 +30,8 @@ pub(crate) struct Parts<'s, 'a> {
 fn place_items<'a>(arena: &'a Bump, list: &[Named<'a>]) -> Result<&'a [BItem<'a>], Memory>
     ensures items { IfOk result (λ items. map item_of items.now
         ≡ map (λ n. n.item) (map named_of list.now)) }
-    ensures aliases { IfOk result (λ items. map (λ i. option_map (λ alias. alias.now) i.alias) items.now
+    ensures aliases { IfOk result (λ items. map
+        (λ i. option_map (λ alias. alias.now) i.alias) items.now
         ≡ map (λ n. n.alias) (map named_of list.now)) }
 {
     let mut items: Vec<BItem<'a>, &'a Bump> = Vec::new(arena);
@@ -69,7 +70,8 @@ pub(crate) fn place_bound<'a>(
     ensures bound { IfOk result (λ b. bound_of b
         ≡ bound_from (map named_of list.now) (statement_tree stmt.now) parts.now) }
     ensures needs { IfOk result (λ b. needs_of b
-        ≡ needs_in scope.now (bound_from (map named_of list.now) (statement_tree stmt.now) parts.now)) }
+        ≡ needs_in scope.now (bound_from (map named_of list.now)
+            (statement_tree stmt.now) parts.now)) }
     ensures aliases { IfOk result (λ b. aliases_of b ≡ map (λ n. n.alias) (map named_of list.now)) }
 {
     let rowids = changes_rows(stmt);

@@ -34,7 +34,8 @@ fn push<'a>(
 ) -> Result<(), Memory>
     ensures { OnOk result (results_seen results.new.items
         ≡ results_seen results.old.items
-        ++ record { expr = expr_of expr.entry; alias = option_map (λ bytes. bytes.now) alias.entry } ∷ []) }
+        ++ record { expr = expr_of expr.entry;
+            alias = option_map (λ bytes. bytes.now) alias.entry } ∷ []) }
 {
     if results.len() >= MOST_RESULTS {
         return Err(Memory);
@@ -55,7 +56,8 @@ fn push_columns<'a>(
 ) -> Result<(), Memory>
     requires { item < length scope.now.items }
     ensures { OnOk result
-        (results_seen results.new.items ≡ results_seen results.old.items ++ item_columns scope.now item) }
+        (results_seen results.new.items ≡ results_seen results.old.items
+            ++ item_columns scope.now item) }
 {
     let table = scope.table(item);
     let width = table.columns.as_slice().len() as u32;
@@ -72,7 +74,8 @@ fn push_all_columns<'a>(
     results: &mut Vec<Column<'a>>,
 ) -> Result<(), Memory>
     ensures { OnOk result
-        (results_seen results.new.items ≡ results_seen results.old.items ++ every_column scope.now) }
+        (results_seen results.new.items ≡ results_seen results.old.items
+            ++ every_column scope.now) }
 {
     for item in 0..scope.count() {
         push_columns(arena, scope, results, item)?;
@@ -122,7 +125,8 @@ fn push_value<'a>(
     ensures { Answers (λ _. results_seen results.new.items) result
         (expr_checks scope.now (tree_of tree.now))
         (results_seen results.old.items
-        ++ record { expr = bound scope.now (tree_of tree.now); alias = option_map (λ bytes. bytes.now) alias.entry } ∷ []) }
+        ++ record { expr = bound scope.now (tree_of tree.now);
+            alias = option_map (λ bytes. bytes.now) alias.entry } ∷ []) }
 {
     let expr = bind_expr(alloc, arena, scope, tree)?;
     push(arena, results, expr, alias)?;

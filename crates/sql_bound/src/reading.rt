@@ -47,7 +47,8 @@ impl<'e> Seen<'e> {
     /// The value under a conversion; it stays as it is where there is none.
     pub(crate) fn converted(self, alloc: Global, conv: Option<Affinity>) -> Result<Self, Memory>
         ensures { IfOk result (λ made.
-            seen_value made ≡ converted_by (option_map plain_affinity conv) (seen_value self.entry)) }
+            seen_value made ≡ converted_by (option_map plain_affinity conv)
+                (seen_value self.entry)) }
     {
         let Some(aff) = conv else {
             return Ok(self);

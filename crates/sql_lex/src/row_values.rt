@@ -58,7 +58,8 @@ fn take_open(window: &mut Window)
     requires { window.old.depth < 2 ^ 62 }
     ensures same { window.new.base ≡ window.old.base }
     ensures depth { window.new.depth ≤ window.old.depth + 1 }
-    ensures follows { (s : State) → Follows window.old s → Follows window.new (next_state RowStep.Open s) }
+    ensures follows { (s : State) → Follows window.old s
+        → Follows window.new (next_state RowStep.Open s) }
 {
     let level = window.depth;
     window.depth += 1;
@@ -73,7 +74,8 @@ fn take_open(window: &mut Window)
 fn take_close(window: &mut Window)
     ensures same { window.new.base ≡ window.old.base }
     ensures depth { window.new.depth ≤ window.old.depth + 1 }
-    ensures follows { (s : State) → Follows window.old s → Follows window.new (next_state RowStep.Close s) }
+    ensures follows { (s : State) → Follows window.old s
+        → Follows window.new (next_state RowStep.Close s) }
 {
     window.after_in = false;
     if window.depth == 0 {

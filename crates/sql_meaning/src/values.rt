@@ -11,14 +11,16 @@ ghost use Rattle.sql_meaning.specs.Truth.{is_true_text, HasNonzeroRun};
 /// Values under a collation are in a total order up to values that compare as the same.
 pub fn order_is_total()
     ensures total { (coll : Collation) → IsTotalOrder (value_cmp coll) }
-    ensures ties { (coll : Collation) → (v w : Value) → Same coll v w ↔ ((Before coll v w → ⊥) × (Before coll w v → ⊥)) }
+    ensures ties { (coll : Collation) → (v w : Value) → Same coll v w
+        ↔ ((Before coll v w → ⊥) × (Before coll w v → ⊥)) }
 {}
 
 /// To compare as the same is an equivalence.
 pub fn same_is_an_equivalence()
     ensures reflexive { (coll : Collation) → (v : Value) → Same coll v v }
     ensures symmetric { (coll : Collation) → (v w : Value) → Same coll v w → Same coll w v }
-    ensures transitive { (coll : Collation) → (u v w : Value) → Same coll u v → Same coll v w → Same coll u w }
+    ensures transitive { (coll : Collation) → (u v w : Value) → Same coll u v → Same coll v w
+        → Same coll u w }
 {}
 
 /// A text reads as a number exactly where it has the parts of one, and as one number only.
@@ -40,8 +42,10 @@ pub fn conversions_settle()
     ensures fixed { (aff : Affinity) → (v : Value) → IsFixed aff (converted aff v) }
     ensures null { (aff : Affinity) → converted aff Null ≡ Null }
     ensures blobs { (aff : Affinity) → (bytes : List ℕ) → converted aff (Blob bytes) ≡ Blob bytes }
-    ensures numbers { (aff : Affinity) → is_numeric (Some aff) ≡ true → (coll : Collation) → (v : Value) → Same coll (converted aff v) (with_text_read v) }
-    ensures texts { (aff : Affinity) → is_numeric (Some aff) ≡ true → (coll : Collation) → (text : List ℕ) → (v : Value) → ReadsAs text v → Same coll (converted aff (Text text)) v }
+    ensures numbers { (aff : Affinity) → is_numeric (Some aff) ≡ true → (coll : Collation)
+        → (v : Value) → Same coll (converted aff v) (with_text_read v) }
+    ensures texts { (aff : Affinity) → is_numeric (Some aff) ≡ true → (coll : Collation) →
+        (text : List ℕ) → (v : Value) → ReadsAs text v → Same coll (converted aff (Text text)) v }
     ensures bounds { (aff : Affinity) → (v : Value) → IsValue v → IsValue (converted aff v) }
 {}
 
@@ -53,5 +57,6 @@ pub fn truth_is_of_a_run()
 
 /// A word is found in a text exactly where it stands in it.
 pub fn declared_words_stand_in_text()
-    ensures { (word text : List ℕ) → 0 < length word → (holds_word word text ≡ true) ↔ ((front : List ℕ) × (back : List ℕ) × (text ≡ front ++ (word ++ back))) }
+    ensures { (word text : List ℕ) → 0 < length word → (holds_word word text ≡ true)
+        ↔ ((front : List ℕ) × (back : List ℕ) × (text ≡ front ++ (word ++ back))) }
 {}

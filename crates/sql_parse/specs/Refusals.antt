@@ -45,7 +45,8 @@ is_outside_by (terminal.Symbol s) negative bytes = false
 is_outside_by terminal.Bad negative bytes = false
 
 unfoldable pub is_outside : List ℕ → Bool → Token → Bool
-is_outside text negative token = is_outside_by (terminal_of text token) negative (text_of text token)
+is_outside text negative token = is_outside_by (terminal_of text token) negative
+    (text_of text token)
 
 unfoldable pub is_minus : Terminal → Bool
 is_minus (terminal.Symbol symbol.Minus) = true
@@ -54,7 +55,8 @@ is_minus _ = false
 -- whether a number token is outside the profile; the flag says whether `-` stands directly before the first
 abbrev pub outside_from : List ℕ → Bool → List Token → Bool
 outside_from text negative [] = false
-outside_from text negative (t ∷ ts) = is_outside text negative t || outside_from text (is_minus (terminal_of text t)) ts
+outside_from text negative (t ∷ ts) = is_outside text negative t
+    || outside_from text (is_minus (terminal_of text t)) ts
 
 abbrev pub foreign_or : Option Foreign → Option ParseFault → Option ParseFault
 foreign_or None later = later

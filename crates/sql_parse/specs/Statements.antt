@@ -26,28 +26,34 @@ pub data Listed {A : Type 0} (one : List Lexeme → A → Type 0) : List Lexeme 
 -- an expression behind a mark, or nothing
 pub data Condition : Mark → List Lexeme → Option Tree → Type 0 where
   absent : {m : Mark} → Condition m [] None
-  present : {m : Mark} {ts : List Lexeme} {x : Tree} → Spells level.expr ts x → Condition m (lexeme.Fixed m ∷ ts) (Some x)
+  present : {m : Mark} {ts : List Lexeme} {x : Tree} → Spells level.expr ts x →
+      Condition m (lexeme.Fixed m ∷ ts) (Some x)
 
 -- a name, or a text where the flag is true
 pub data Label : Bool → Lexeme → List ℕ → Type 0 where
-  named : {texts : Bool} (bytes : List ℕ) (d : Option Direction) → Label texts (lexeme.Name bytes d) bytes
+  named : {texts : Bool} (bytes : List ℕ) (d : Option Direction) →
+      Label texts (lexeme.Name bytes d) bytes
   text : (bytes : List ℕ) → Label true (lexeme.Text bytes) bytes
 
 pub data Alias : Bool → List Lexeme → Option (List ℕ) → Type 0 where
   none : {texts : Bool} → Alias texts [] None
-  bare : {texts : Bool} {t : Lexeme} {bytes : List ℕ} → Label texts t bytes → Alias texts (t ∷ []) (Some bytes)
+  bare : {texts : Bool} {t : Lexeme} {bytes : List ℕ} → Label texts t bytes →
+      Alias texts (t ∷ []) (Some bytes)
   behind_as : {texts : Bool} {t : Lexeme} {bytes : List ℕ} → Label texts t bytes →
       Alias texts (lexeme.Fixed mark.As ∷ t ∷ []) (Some bytes)
 
 pub data Result : List Lexeme → ItemTree → Type 0 where
   star : Result (lexeme.Fixed mark.Star ∷ []) statement.Star
   table_star : (t : List ℕ) (d : Option Direction) →
-      Result (lexeme.Name t d ∷ lexeme.Fixed mark.Dot ∷ lexeme.Fixed mark.Star ∷ []) (statement.TableStar t)
-  value : {ts fs bs : List Lexeme} {x : Tree} {a : Option (List ℕ)} → Spells level.expr fs x → Alias true bs a →
+      Result (lexeme.Name t d ∷ lexeme.Fixed mark.Dot ∷ lexeme.Fixed mark.Star ∷ [])
+          (statement.TableStar t)
+  value : {ts fs bs : List Lexeme} {x : Tree} {a : Option (List ℕ)} → Spells level.expr fs x →
+      Alias true bs a →
       ts ≡ fs ++ bs → Result ts (statement.Value x a)
 
 pub data Table : Bool → List Lexeme → SourceTree → Type 0 where
-  table : {cross : Bool} {ts : List Lexeme} {a : Option (List ℕ)} (t : List ℕ) (d : Option Direction) →
+  table : {cross : Bool} {ts : List Lexeme} {a : Option (List ℕ)} (t : List ℕ)
+      (d : Option Direction) →
       Alias false ts a → Table cross (lexeme.Name t d ∷ ts) (source_named t a cross None)
 
 -- the source with its ON condition
@@ -56,22 +62,29 @@ on_condition s on = source_named s.table s.alias s.cross on
 
 -- JOIN, a source and its condition
 pub data Joined : Bool → List Lexeme → SourceTree → Type 0 where
-  joined : {cross : Bool} {ts fs bs : List Lexeme} {s : SourceTree} {on : Option Tree} → Table cross fs s →
-      Condition mark.On bs on → ts ≡ lexeme.Fixed mark.Join ∷ (fs ++ bs) → Joined cross ts (on_condition s on)
+  joined : {cross : Bool} {ts fs bs : List Lexeme} {s : SourceTree} {on : Option Tree} →
+      Table cross fs s →
+      Condition mark.On bs on → ts ≡ lexeme.Fixed mark.Join ∷ (fs ++ bs) →
+          Joined cross ts (on_condition s on)
 
 pub data Join : List Lexeme → SourceTree → Type 0 where
-  comma : {ts : List Lexeme} {s : SourceTree} → Table false ts s → Join (lexeme.Fixed mark.Comma ∷ ts) s
+  comma : {ts : List Lexeme} {s : SourceTree} → Table false ts s →
+      Join (lexeme.Fixed mark.Comma ∷ ts) s
   plain : {ts : List Lexeme} {s : SourceTree} → Joined false ts s → Join ts s
-  inner : {ts : List Lexeme} {s : SourceTree} → Joined false ts s → Join (lexeme.Fixed mark.Inner ∷ ts) s
-  cross : {ts : List Lexeme} {s : SourceTree} → Joined true ts s → Join (lexeme.Fixed mark.Cross ∷ ts) s
+  inner : {ts : List Lexeme} {s : SourceTree} → Joined false ts s →
+      Join (lexeme.Fixed mark.Inner ∷ ts) s
+  cross : {ts : List Lexeme} {s : SourceTree} → Joined true ts s →
+      Join (lexeme.Fixed mark.Cross ∷ ts) s
 
 pub data Joins : List Lexeme → List SourceTree → Type 0 where
   none : Joins [] []
-  more : {ts fs bs : List Lexeme} {s : SourceTree} {ss : List SourceTree} → Join fs s → Joins bs ss →
+  more : {ts fs bs : List Lexeme} {s : SourceTree} {ss : List SourceTree} → Join fs s →
+      Joins bs ss →
       ts ≡ fs ++ bs → Joins ts (s ∷ ss)
 
 pub data Sources : List Lexeme → List SourceTree → Type 0 where
-  sources : {ts fs bs : List Lexeme} {s : SourceTree} {ss : List SourceTree} → Table false fs s → Joins bs ss →
+  sources : {ts fs bs : List Lexeme} {s : SourceTree} {ss : List SourceTree} → Table false fs s →
+      Joins bs ss →
       ts ≡ fs ++ bs → Sources ts (s ∷ ss)
 
 -- nothing, ASC or DESC; true is the falling one
@@ -81,7 +94,8 @@ pub data Directed : List Lexeme → Bool → Type 0 where
   desc : (bytes : List ℕ) → Directed (lexeme.Name bytes (Some direction.Desc) ∷ []) true
 
 pub data SortKey : List Lexeme → KeyTree → Type 0 where
-  key : {ts fs bs : List Lexeme} {x : Tree} {falls : Bool} → Spells level.expr fs x → Directed bs falls →
+  key : {ts fs bs : List Lexeme} {x : Tree} {falls : Bool} → Spells level.expr fs x →
+      Directed bs falls →
       ts ≡ fs ++ bs → SortKey ts (key_by x falls)
 
 pub data SortKeys : List Lexeme → List KeyTree → Type 0 where
@@ -91,17 +105,21 @@ pub data SortKeys : List Lexeme → List KeyTree → Type 0 where
 
 pub data Count : List Lexeme → Cut → Type 0 where
   count : {n : ℕ} {z : ℤ} → signed false n ≡ Some z → Count (lexeme.Int n ∷ []) (cut.Count z)
-  negative : {n : ℕ} {z : ℤ} → signed true n ≡ Some z → Count (lexeme.Fixed mark.Minus ∷ lexeme.Int n ∷ []) (cut.Count z)
+  negative : {n : ℕ} {z : ℤ} → signed true n ≡ Some z →
+      Count (lexeme.Fixed mark.Minus ∷ lexeme.Int n ∷ []) (cut.Count z)
   param : (n : ℕ) → Count (lexeme.Param n ∷ []) (cut.Param n)
 
 -- In `LIMIT x, y` the first is the offset.
 pub data Limits : List Lexeme → Cuts → Type 0 where
   none : Limits [] (None, None)
-  limit : {ts : List Lexeme} {x : Cut} → Count ts x → Limits (lexeme.Fixed mark.Limit ∷ ts) (Some x, None)
+  limit : {ts : List Lexeme} {x : Cut} → Count ts x →
+      Limits (lexeme.Fixed mark.Limit ∷ ts) (Some x, None)
   limit_offset : {ts fs bs : List Lexeme} {x y : Cut} → Count fs x → Count bs y →
-      ts ≡ lexeme.Fixed mark.Limit ∷ (fs ++ lexeme.Fixed mark.Offset ∷ bs) → Limits ts (Some x, Some y)
+      ts ≡ lexeme.Fixed mark.Limit ∷ (fs ++ lexeme.Fixed mark.Offset ∷ bs) →
+          Limits ts (Some x, Some y)
   offset_limit : {ts fs bs : List Lexeme} {x y : Cut} → Count fs x → Count bs y →
-      ts ≡ lexeme.Fixed mark.Limit ∷ (fs ++ lexeme.Fixed mark.Comma ∷ bs) → Limits ts (Some y, Some x)
+      ts ≡ lexeme.Fixed mark.Limit ∷ (fs ++ lexeme.Fixed mark.Comma ∷ bs) →
+          Limits ts (Some y, Some x)
 
 pub data Setting : List Lexeme → SetTree → Type 0 where
   set : {ts : List Lexeme} {x : Tree} (c : List ℕ) (d : Option Direction) → Spells level.expr ts x →
@@ -118,9 +136,11 @@ pub data IsSpelled : List Lexeme → StatementTree → Type 0 where
       {filter : Option Tree} {keys : List KeyTree} {cuts : Cuts} →
       PerhapsAll qs → Listed Result is items → Sources ss sources → Condition mark.Where fs filter →
       SortKeys ks keys → Limits cs cuts →
-      ts ≡ lexeme.Fixed mark.Select ∷ (qs ++ (is ++ lexeme.Fixed mark.From ∷ (ss ++ (fs ++ (ks ++ cs))))) →
+      ts ≡ lexeme.Fixed mark.Select ∷ (qs
+          ++ (is ++ lexeme.Fixed mark.From ∷ (ss ++ (fs ++ (ks ++ cs))))) →
       IsSpelled ts (statement.Select (select_of items sources filter keys cuts))
-  update : {ts ss us fs : List Lexeme} {source : SourceTree} {sets : List SetTree} {filter : Option Tree} →
+  update : {ts ss us fs : List Lexeme} {source : SourceTree} {sets : List SetTree}
+      {filter : Option Tree} →
       Table false ss source → Listed Setting us sets → Condition mark.Where fs filter →
       ts ≡ lexeme.Fixed mark.Update ∷ (ss ++ lexeme.Fixed mark.Set ∷ (us ++ fs)) →
       IsSpelled ts (statement.Update (update_of source sets filter))

@@ -82,7 +82,8 @@ mark_or (Some m) unmarked = lexeme.Fixed m
 -- a word of the language: a mark, or a name where it isn't reserved
 abbrev pub keyword_lexeme : Keyword → List ℕ → Lexeme
 keyword_lexeme k bytes =
-    mark_or (keyword_mark k) (cond (is_reserved_word k) lexeme.Other (lexeme.Name bytes (keyword_direction k)))
+    mark_or (keyword_mark k) (cond (is_reserved_word k) lexeme.Other
+        (lexeme.Name bytes (keyword_direction k)))
 
 abbrev pub symbol_lexeme : Symbol → Lexeme
 symbol_lexeme s = mark_or (symbol_mark s) lexeme.Other
@@ -109,7 +110,8 @@ lexeme_by (terminal.Symbol s) bytes value met = symbol_lexeme s
 lexeme_by terminal.Bad bytes value met = lexeme.Other
 
 unfoldable pub lexeme_at : List ℕ → Met → Token → Lexeme
-lexeme_at text met token = lexeme_by (terminal_of text token) (text_of text token) (value_of text token) met
+lexeme_at text met token = lexeme_by (terminal_of text token) (text_of text token)
+    (value_of text token) met
 
 abbrev pub met_by : Terminal → List ℕ → Met → Met
 met_by terminal.Parameter bytes met = met_behind met bytes

@@ -95,7 +95,8 @@ impl Parameters {
 
     /// The number of a name, which is met from here on.
     fn take_name(&mut self, alloc: Global, name: &[u8]) -> Result<u32, Memory>
-        ensures { IfOk result (λ n. (n ≡ unwrap_or (number_named name.now self.old.named) (self.old.greatest + 1))
+        ensures { IfOk result (λ n. (n ≡ unwrap_or (number_named name.now self.old.named)
+            (self.old.greatest + 1))
             × (self.new ≡ with_name self.old name.now (number_named name.now self.old.named))) }
     {
         if let Some(number) = self.find(name) {
@@ -108,7 +109,8 @@ impl Parameters {
 
     /// The number of a parameter, which is met from here on. `None` where `?` stands before what is
     /// no number of a parameter.
-    #[tactic(auto, unfolding(crate::specs::Parameters::form_of, crate::specs::Parameters::parameter_number, crate::specs::Parameters::met_behind))]
+    #[tactic(auto, unfolding(crate::specs::Parameters::form_of,
+        crate::specs::Parameters::parameter_number, crate::specs::Parameters::met_behind))]
     pub(crate) fn take(&mut self, alloc: Global, bytes: &[u8]) -> Result<Option<u32>, Memory>
         ensures { IfOk result (λ n. (n ≡ parameter_number self.old bytes.now)
             × (self.new ≡ met_behind self.old bytes.now)) }

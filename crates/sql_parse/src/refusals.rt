@@ -108,7 +108,8 @@ pub fn parse<'a>(
     ensures refused { (fault : ParseFault) → first_refusal text.now tokens.now ≡ Some fault →
         result ≡ Err fault }
     // What is read is spelled so.
-    ensures found { IfOk result (λ s. IsSpelled (lexemes_of text.now tokens.now) (statement_tree s)) }
+    ensures found { IfOk result (λ s. IsSpelled (lexemes_of text.now tokens.now)
+        (statement_tree s)) }
     // What is spelled is read, unless memory runs out.
     ensures only { first_refusal text.now tokens.now ≡ None → (t : StatementTree) →
         IsSpelled (lexemes_of text.now tokens.now) t →

@@ -108,7 +108,8 @@ between_at b negated x ts =
 -- the entries of IN, none or more, up to the closing parenthesis
 unfoldable pub entries_at : Below → Reader (List Tree)
 entries_at b ts =
-    branch (after mark.Close ts) (enclosed_at (list_at b.expr (after mark.Comma) b.expr) ts) (λ r. Some ([], r))
+    branch (after mark.Close ts) (enclosed_at (list_at b.expr (after mark.Comma) b.expr) ts)
+        (λ r. Some ([], r))
 
 unfoldable pub one_of_at : Below → Bool → Tree → Reader Tree
 one_of_at b negated left ts =
@@ -127,13 +128,16 @@ test_at b ts =
     operand_at b ts >>= λ x. branch (follow_at x.1) (Some x) (λ f. tested_at b x.0 f.0 f.1)
 
 unfoldable pub not_at : Below → Reader Tree
-not_at b ts = branch (after mark.Not ts) (test_at b ts) (λ r. b.not r >>= λ x. Some (tree.Not x.0, x.1))
+not_at b ts = branch (after mark.Not ts) (test_at b ts)
+    (λ r. b.not r >>= λ x. Some (tree.Not x.0, x.1))
 
 unfoldable pub and_at : Below → Reader Tree
-and_at b ts = list_at (not_at b) (after mark.And) (not_at b) ts >>= λ xs. Some (joined tree.All xs.0, xs.1)
+and_at b ts = list_at (not_at b) (after mark.And) (not_at b) ts >>= λ xs.
+    Some (joined tree.All xs.0, xs.1)
 
 unfoldable pub expr_at : Below → Reader Tree
-expr_at b ts = list_at (and_at b) (after mark.Or) (and_at b) ts >>= λ xs. Some (joined tree.Any xs.0, xs.1)
+expr_at b ts = list_at (and_at b) (after mark.Or) (and_at b) ts >>= λ xs.
+    Some (joined tree.Any xs.0, xs.1)
 
 -- what stands between two such marks
 unfoldable pub member_at : Below → Joint → Reader Tree
@@ -149,4 +153,5 @@ joint_mark joint.Or = mark.Or
 -- the readers of a depth
 unfoldable pub below : ℕ → Below
 below zero = record { expr = λ ts. None; not = λ ts. None; operand = λ ts. None }
-below (suc n) = record { expr = expr_at (below n); not = not_at (below n); operand = operand_at (below n) }
+below (suc n) = record { expr = expr_at (below n); not = not_at (below n);
+    operand = operand_at (below n) }

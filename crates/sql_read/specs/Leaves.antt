@@ -15,8 +15,10 @@ signed true n = cond (nat_le n (2 ^ 63)) (Some (neg_ℤ (pos n))) None
 -- a number without its sign
 unfoldable pub number_at : Bool → Reader Tree
 number_at negative [] = None
-number_at negative (lexeme.Int n ∷ rest) = signed negative n >>= λ z. Some (tree.Lit (value.Int z), rest)
-number_at negative (lexeme.Dec units ∷ rest) = signed negative units >>= λ z. Some (tree.Lit (value.Dec z), rest)
+number_at negative (lexeme.Int n ∷ rest) = signed negative n >>= λ z.
+    Some (tree.Lit (value.Int z), rest)
+number_at negative (lexeme.Dec units ∷ rest) = signed negative units >>= λ z.
+    Some (tree.Lit (value.Dec z), rest)
 number_at negative (lexeme.Fixed m ∷ rest) = None
 number_at negative (lexeme.Name bytes direction ∷ rest) = None
 number_at negative (lexeme.Text bytes ∷ rest) = None
@@ -46,4 +48,5 @@ leaf_at (lexeme.Other ∷ rest) = None
 -- what may follow a primary expression: COLLATE and a name
 unfoldable pub collated_at : Tree → Reader Tree
 collated_at x ts =
-    branch (after mark.Collate ts) (Some (x, ts)) (λ r. name_at r >>= λ c. Some (tree.Collate x c.0, c.1))
+    branch (after mark.Collate ts) (Some (x, ts))
+        (λ r. name_at r >>= λ c. Some (tree.Collate x c.0, c.1))

@@ -10,9 +10,11 @@ abbrev pub Left : Type 0
 Left = Bor (List BorrowedLexeme)
 
 -- each result is what the reader gives, with its member seen as a tree
-abbrev pub Reads : {T A : Type 0} → (T → A) → (Left → Result (T × Left) ReadFault → Type 0) → Reader A → Type 0
+abbrev pub Reads : {T A : Type 0} → (T → A) → (Left → Result (T × Left) ReadFault → Type 0)
+    → Reader A → Type 0
 Reads tree post reader =
-    (left : Left) (r : _) → post left r → Gives (λ x. (tree x.0, seen x.1.now)) r (reader (seen left.now))
+    (left : Left) (r : _) → post left r → Gives (λ x. (tree x.0, seen x.1.now)) r
+        (reader (seen left.now))
 
 -- each result is the lexemes that start finds, or nothing where it finds none
 abbrev pub Finds : (Left → Option Left → Type 0) → (List Lexeme → Option (List Lexeme)) → Type 0

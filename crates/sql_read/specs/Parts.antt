@@ -39,7 +39,8 @@ alias_at texts ts =
 -- a name and `.*`
 unfoldable pub table_star_at : Reader (List ℕ)
 table_star_at ts =
-    name_at ts >>= λ table. branch (after mark.Dot table.1) None (λ r. branch (after mark.Star r) None (λ q.
+    name_at ts >>= λ table. branch (after mark.Dot table.1) None
+        (λ r. branch (after mark.Star r) None (λ q.
     Some (table.0, q)))
 
 unfoldable pub value_item_at : Reader Tree → Reader ItemTree
@@ -48,7 +49,8 @@ value_item_at e ts = e ts >>= λ x. alias_at true x.1 >>= λ a. Some (item.Value
 unfoldable pub item_at : Reader Tree → Reader ItemTree
 item_at e ts =
     branch (after mark.Star ts)
-    (branch (table_star_at ts) (value_item_at e ts) (λ table. Some (item.TableStar table.0, table.1)))
+    (branch (table_star_at ts) (value_item_at e ts)
+        (λ table. Some (item.TableStar table.0, table.1)))
     (λ r. Some (item.Star, r))
 
 abbrev pub source_named : List ℕ → Option (List ℕ) → Bool → Option Tree → SourceTree
@@ -62,7 +64,8 @@ source_at cross ts =
 -- a source with its ON condition, behind JOIN
 unfoldable pub joined_source_at : Reader Tree → Bool → Reader SourceTree
 joined_source_at e cross ts =
-    branch (after mark.Join ts) None (λ r. source_at cross r >>= λ s. optional_at mark.On e s.1 >>= λ on.
+    branch (after mark.Join ts) None (λ r. source_at cross r >>= λ s.
+        optional_at mark.On e s.1 >>= λ on.
     Some (source_named s.0.table s.0.alias s.0.cross on.0, on.1))
 
 -- a further source: behind a comma, CROSS JOIN, INNER JOIN or JOIN
@@ -154,7 +157,8 @@ second_cut_at first ts =
 
 unfoldable pub cuts_at : Reader Cuts
 cuts_at ts =
-    branch (after mark.Limit ts) (Some ((None, None), ts)) (λ r. cut_at r >>= λ first. second_cut_at first.0 first.1)
+    branch (after mark.Limit ts) (Some ((None, None), ts))
+        (λ r. cut_at r >>= λ first. second_cut_at first.0 first.1)
 
 abbrev pub set_to : List ℕ → Tree → SetTree
 set_to column x = record { column = column; value = x }
@@ -162,4 +166,5 @@ set_to column x = record { column = column; value = x }
 -- a column and its new value
 unfoldable pub set_at : Reader Tree → Reader SetTree
 set_at e ts =
-    name_at ts >>= λ column. branch (after mark.Eq column.1) None (λ r. e r >>= λ x. Some (set_to column.0 x.0, x.1))
+    name_at ts >>= λ column. branch (after mark.Eq column.1) None
+        (λ r. e r >>= λ x. Some (set_to column.0 x.0, x.1))

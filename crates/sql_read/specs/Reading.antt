@@ -64,12 +64,15 @@ abbrev pub with_front : {A : Type 0} → List A → Read (List A) → Read (List
 with_front front read = read >>= λ xs. Some (front ++ xs.0, xs.1)
 
 -- up to n more members, each where start finds that one follows
-unfoldable pub more_at : {A : Type 0} → (List Lexeme → Option (List Lexeme)) → Reader A → ℕ → Reader (List A)
+unfoldable pub more_at : {A : Type 0} → (List Lexeme → Option (List Lexeme)) → Reader A → ℕ
+    → Reader (List A)
 more_at start p zero ts = Some ([], ts)
 more_at start p (suc n) ts =
-    branch (start ts) (Some ([], ts)) (λ r. p r >>= λ x. with_front (x.0 ∷ []) (more_at start p n x.1))
+    branch (start ts) (Some ([], ts)) (λ r. p r >>= λ x.
+        with_front (x.0 ∷ []) (more_at start p n x.1))
 
 -- a first member, and then as many more as there are
-unfoldable pub list_at : {A : Type 0} → Reader A → (List Lexeme → Option (List Lexeme)) → Reader A → Reader (List A)
+unfoldable pub list_at : {A : Type 0} → Reader A → (List Lexeme → Option (List Lexeme)) → Reader A
+    → Reader (List A)
 list_at first start p ts =
     first ts >>= λ x. with_front (x.0 ∷ []) (more_at start p (length x.1) x.1)

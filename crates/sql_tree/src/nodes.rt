@@ -28,7 +28,8 @@ pub fn collate<'a>(
     inner: Expr<'a>,
     collation: &'a [u8],
 ) -> Result<Expr<'a>, Memory>
-    ensures { IfOk result (λ made. tree_of made ≡ tree.Collate (tree_of inner.entry) collation.now) }
+    ensures { IfOk result (λ made. tree_of made
+        ≡ tree.Collate (tree_of inner.entry) collation.now) }
 {
     Ok(Expr::Collate(place_expr(arena, inner)?, collation))
 }

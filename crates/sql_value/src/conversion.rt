@@ -11,7 +11,8 @@ use std::alloc::Global;
 /// The value as a column of this affinity holds it: section 3 of
 /// <https://sqlite.org/datatype3.html>.
 pub fn apply(alloc: Global, aff: Affinity, value: &Value) -> Result<Value, Memory>
-    ensures { IfOk result (λ made. plain_value made ≡ meant.converted (plain_affinity aff) (plain_value value.now)) }
+    ensures { IfOk result (λ made. plain_value made
+        ≡ meant.converted (plain_affinity aff) (plain_value value.now)) }
 {
     match aff {
         Affinity::Integer | Affinity::Numeric => Ok(narrow(copy_with_text_read(alloc, value)?)),
@@ -25,7 +26,8 @@ pub fn apply(alloc: Global, aff: Affinity, value: &Value) -> Result<Value, Memor
 /// Takes memory under TEXT alone.
 pub fn convert(alloc: Global, aff: Affinity, value: Value) -> Result<Value, Memory>
     ensures memory { IsErr result → aff ≡ Affinity.Text }
-    ensures converted { IfOk result (λ made. plain_value made ≡ meant.converted (plain_affinity aff) (plain_value value)) }
+    ensures converted { IfOk result (λ made. plain_value made
+        ≡ meant.converted (plain_affinity aff) (plain_value value)) }
 {
     match aff {
         Affinity::Integer | Affinity::Numeric => Ok(narrow(with_text_read(value))),
@@ -48,7 +50,8 @@ fn with_text_read(value: Value) -> Value
 }
 
 fn copy_with_text_read(alloc: Global, value: &Value) -> Result<Value, Memory>
-    ensures { IfOk result (λ made. plain_value made ≡ meant.with_text_read (plain_value value.now)) }
+    ensures { IfOk result (λ made. plain_value made
+        ≡ meant.with_text_read (plain_value value.now)) }
 {
     if let Value::Text(text) = value {
         if let Some(number) = read_number(text.as_slice()) {
@@ -102,8 +105,10 @@ fn copy_written(alloc: Global, value: &Value) -> Result<Value, Memory>
 /// What is applied to each side of a comparison, by the affinities that the two sides have: section
 /// 4.2 of <https://sqlite.org/datatype3.html>. Takes no memory.
 pub fn conversions(left: Option<Affinity>, right: Option<Affinity>) -> Conversions
-    ensures left { option_map plain_affinity result.left ≡ meant.side_conversion (option_map plain_affinity left) (option_map plain_affinity right) }
-    ensures right { option_map plain_affinity result.right ≡ meant.side_conversion (option_map plain_affinity right) (option_map plain_affinity left) }
+    ensures left { option_map plain_affinity result.left ≡ meant.side_conversion
+        (option_map plain_affinity left) (option_map plain_affinity right) }
+    ensures right { option_map plain_affinity result.right ≡ meant.side_conversion
+        (option_map plain_affinity right) (option_map plain_affinity left) }
 {
     Conversions {
         left: side_conversion(left, right),
@@ -112,7 +117,8 @@ pub fn conversions(left: Option<Affinity>, right: Option<Affinity>) -> Conversio
 }
 
 fn side_conversion(own: Option<Affinity>, other: Option<Affinity>) -> Option<Affinity>
-    ensures { option_map plain_affinity result ≡ meant.side_conversion (option_map plain_affinity own) (option_map plain_affinity other) }
+    ensures { option_map plain_affinity result
+        ≡ meant.side_conversion (option_map plain_affinity own) (option_map plain_affinity other) }
 {
     if is_numeric(other) && !is_numeric(own) {
         Some(Affinity::Numeric)

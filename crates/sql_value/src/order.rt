@@ -13,7 +13,8 @@ use std::cmp::Ordering;
 /// The order of two values: NULL first, then numbers, texts and blobs, as section 4.1 of
 /// <https://sqlite.org/datatype3.html> has it. Takes no memory and makes no key.
 pub fn compare(coll: Collation, left: &Value, right: &Value) -> Ordering
-    ensures { result ≡ value_cmp (plain_collation coll) (plain_value left.now) (plain_value right.now) }
+    ensures { result ≡ value_cmp (plain_collation coll) (plain_value left.now)
+        (plain_value right.now) }
 {
     match (left, right) {
         (Value::Null, Value::Null) => Ordering::Equal,
@@ -42,7 +43,8 @@ fn compare_ints(left: &i64, right: &i64) -> Ordering
 }
 
 fn compare_texts(coll: Collation, left: &[u8], right: &[u8]) -> Ordering
-    ensures { result ≡ slice_cmp nat_cmp (text_key (plain_collation coll) left.now) (text_key (plain_collation coll) right.now) }
+    ensures { result ≡ slice_cmp nat_cmp (text_key (plain_collation coll) left.now)
+        (text_key (plain_collation coll) right.now) }
 {
     match coll {
         Collation::Binary => left.cmp(right),

@@ -48,16 +48,19 @@ abbrev pub digits : Form
 digits = some_then is_ascii_digit nothing
 
 abbrev pub exponent : Form
-exponent = byte_then (λ b. b == 101 || b == 69) (either digits (byte_then (λ b. b == 43 || b == 45) digits))
+exponent = byte_then (λ b. b == 101 || b == 69)
+    (either digits (byte_then (λ b. b == 43 || b == 45) digits))
 
 -- digits, digits with a point, or a point and digits, each with an exponent or without; or hexadecimal
 abbrev pub decimal : Form
 decimal =
-    either (some_then is_ascii_digit (either (maybe exponent) (byte_then (is 46) (run_then is_ascii_digit (maybe exponent)))))
+    either (some_then is_ascii_digit (either (maybe exponent)
+        (byte_then (is 46) (run_then is_ascii_digit (maybe exponent)))))
     (byte_then (is 46) (some_then is_ascii_digit (maybe exponent)))
 
 abbrev pub hexadecimal : Form
-hexadecimal = byte_then (is 48) (byte_then (λ b. b == 120 || b == 88) (some_then is_ascii_hexdigit nothing))
+hexadecimal = byte_then (is 48) (byte_then (λ b. b == 120 || b == 88)
+    (some_then is_ascii_hexdigit nothing))
 
 abbrev pub number : Form
 number = either hexadecimal decimal
