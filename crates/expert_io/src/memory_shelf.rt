@@ -73,7 +73,8 @@ fn rest_of(files: &Files, current: Option<usize>, at: usize) -> &[u8]
     }
 }
 
-// Copies the front of `rest` to the front of the buffer, at most `most` bytes, and answers how many.
+// Copies the front of `rest` to the front of the buffer, at most `most` bytes, and answers how
+// many.
 fn give(rest: &[u8], most: u64, buf: &mut [u8]) -> usize
     requires { 1 ≤ most }
     ensures least { result ≡ min (min (length buf.new) (length rest.now)) most }
@@ -152,7 +153,8 @@ impl Shelf for MemoryShelf {
         ensures bytes { ReadConsumes (Some self.old.left) (Some self.new.left) result buf.new }
         ensures cause { HasCause self.old.faults self.new.faults result }
 
-        // It fails exactly at a listed call, and gives as much as the buffer, the file and the bound allow.
+        // It fails exactly at a listed call, and gives as much as the buffer, the file and the
+        // bound allow.
         ensures exactly { IsErr result ↔ IsListed self.old.calls self.old.failing }
         ensures gives { IfOk result
             (λ n. n ≡ min (min (length buf.new) (length self.old.left)) self.old.most) }

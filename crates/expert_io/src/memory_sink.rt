@@ -10,8 +10,8 @@ use sql_value::Memory;
 use std::alloc::Global;
 use std::marker::Model;
 
-/// Holds what was written, up to a room that it took when it was made. The calls of the given numbers
-/// fail, counted from 1. One write takes at most `most` bytes.
+/// Holds what was written, up to a room that it took when it was made. The calls of the given
+/// numbers fail, counted from 1. One write takes at most `most` bytes.
 #[derive(Drop)]
 pub struct MemorySink {
     held: Vec<u8>,

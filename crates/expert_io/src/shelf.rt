@@ -24,8 +24,8 @@ pub trait Shelf {
     // How many calls failed for a reason of the outside. The count never falls.
     ghost faults: { Self → ℕ };
 
-    /// Opens the file of a name in place of the one that is open. It fails where a shelf that tells its
-    /// files has none of this name, and by a fault; then no file is open.
+    /// Opens the file of a name in place of the one that is open. It fails where a shelf that tells
+    /// its files has none of this name, and by a fault; then no file is open.
     fn open_file(&mut self, name: &[u8]) -> Result<(), Failed>
         ensures files { files self.new ≡ files self.old }
         ensures opened { OnOk result (IfSome (files self.old) (λ told. (bytes : List ℕ)
@@ -38,8 +38,8 @@ pub trait Shelf {
         ensures failed { OnErr result (Lacks (files self.old) name.now
             ⊎ Rose (faults self.old) (faults self.new)) };
 
-    /// Moves the next bytes of the open file into the front of the buffer and answers how many: 0 for a
-    /// buffer that is not empty says that the file ends here. It fails by a fault alone.
+    /// Moves the next bytes of the open file into the front of the buffer and answers how many: 0
+    /// for a buffer that is not empty says that the file ends here. It fails by a fault alone.
     fn read(&mut self, buf: &mut [u8]) -> Result<usize, Failed>
         ensures files { files self.new ≡ files self.old }
         ensures bound { ReadsAtMost result buf.new }

@@ -135,8 +135,8 @@ fn attempt<'a, F: Shelf, O: Sink>(
     }
 }
 
-/// Reads what the words name, writes the report to `out`, and answers the exit status; where there is
-/// no report, says in one line on `err` why.
+/// Reads what the words name, writes the report to `out`, and answers the exit status; where there
+/// is no report, says in one line on `err` why.
 ///
 /// | Status | When |
 /// |---|---|

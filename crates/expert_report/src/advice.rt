@@ -163,8 +163,8 @@ fn span_outcomes<'a>(
 }
 
 /// What becomes of each statement of a script over a schema: its plan, or the first refusal that it
-/// meets. On every database of the schema, and for all parameters, each plan gives the rows that its
-/// statement asks for, as often and in the asked order.
+/// meets. On every database of the schema, and for all parameters, each plan gives the rows that
+/// its statement asks for, as often and in the asked order.
 pub fn advise(alloc: Global, schema: &Schema, script: &[u8]) -> Result<Report, Memory>
     requires { length script.now < 2 ^ 32 }
     ensures report { IfOk result (λ report. report

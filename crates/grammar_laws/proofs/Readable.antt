@@ -1,4 +1,5 @@
--- Runs whose lexemes are all of the grammar and whose numbers have values: each run that the grammar spells.
+-- Runs whose lexemes are all of the grammar and whose numbers have values: each run that the
+-- grammar spells.
 use Rattle.std.proofs.Common.{◌≡◌, ℕ, Bool, true, false, ◌&&◌, is_some, Option, List, [], ◌∷◌, ◌++◌}
 use Rattle.std.proofs.Common.{refl, ap, sym, ◌∙◌, subst, append_assoc}
 use Rattle.std.proofs.lemmas.List.{append-nil}

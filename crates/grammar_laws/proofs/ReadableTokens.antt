@@ -1,5 +1,5 @@
--- Tokens whose lexemes are readable: none is bad, and no number is outside the profile. So a spelled statement is
--- refused for its depth alone.
+-- Tokens whose lexemes are readable: none is bad, and no number is outside the profile. So a
+-- spelled statement is refused for its depth alone.
 use Rattle.std.proofs.Common.{◌≡◌, ℕ, ◌+◌, ◌*◌, ◌^◌, ◌≤◌, ◌<◌, Bool, true, false, not, ◌&&◌, cond, nat_lt}
 use Rattle.std.proofs.Common.{nat_le, if◌then◌else◌, Option, None, Some, option_map, option_and_then, position}
 use Rattle.std.proofs.Common.{List, [], ◌∷◌, ◌++◌, length, take, drop, refl, ap, ◌∙◌, subst, arith}

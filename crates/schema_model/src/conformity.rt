@@ -196,10 +196,10 @@ fn are_rows(tables: &[Table], lists: &[RowList]) -> bool
     true
 }
 
-/// Whether rows are a database of a schema: a list for each table, by rising rowid, of values within
-/// their bounds that the affinities of their columns leave as they are
-/// (<https://sqlite.org/datatype3.html>, section 3), with the rowid in the column that is its alias.
-/// UNIQUE and NOT NULL are not asked. Takes no memory.
+/// Whether rows are a database of a schema: a list for each table, by rising rowid, of values
+/// within their bounds that the affinities of their columns leave as they are
+/// (<https://sqlite.org/datatype3.html>, section 3), with the rowid in the column that is its
+/// alias. UNIQUE and NOT NULL are not asked. Takes no memory.
 pub fn conforms(schema: &Schema, tables: &Tables) -> bool
     ensures { (result ≡ true) ↔ IsDatabase schema.now tables.now }
 {

@@ -1,5 +1,5 @@
-//! The indexes that PRIMARY KEY and UNIQUE make (<https://sqlite.org/fileformat2.html>, "Representation
-//! Of SQL Indices").
+//! The indexes that PRIMARY KEY and UNIQUE make (<https://sqlite.org/fileformat2.html>,
+//! "Representation Of SQL Indices").
 ghost use Rattle.std.specs.Prelude.{◌≡◌, ◌+◌, ◌<◌, ◌++◌, ◌∷◌, [], length, false, true, OnOk, IfOk};
 ghost use Rattle.std.specs.List.{AllByRecursion};
 ghost use Rattle.sql_meaning.specs.Letters.{folded_bytes};
@@ -230,8 +230,8 @@ fn add_shape(
 }
 
 /// Adds the index of a key to a table's, and answers how many there are, those too whose names were
-/// taken: none on the rowid alone, and none where an earlier key has the same columns under the same
-/// collations.
+/// taken: none on the rowid alone, and none where an earlier key has the same columns under the
+/// same collations.
 fn add_key(
     alloc: Global,
     schema: &mut Schema,

@@ -154,7 +154,8 @@ fn table_total(schema: &Schema) -> u64
 /// that its column's affinity leaves as it is, and the column that is the rowid holds it
 /// (<https://sqlite.org/datatype3.html>, section 3; <https://sqlite.org/lang_createtable.html>,
 /// "ROWIDs and the INTEGER PRIMARY KEY"). What is read and what is passed over is told in
-/// docs/dumps.md. `Memory` comes too where tables, unread tables and indexes would be 1,000,000,000.
+/// docs/dumps.md. `Memory` comes too where tables, unread tables and indexes would be
+/// 1,000,000,000.
 pub fn read_dump(alloc: Global, text: &[u8]) -> Result<Dump, ReadDumpFault>
     requires { length text.now < 2 ^ 32 }
     ensures same { IfOk result (λ dump. meant.seen_dump dump ≡ meant.dump_of text.now) }

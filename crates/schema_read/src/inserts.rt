@@ -55,7 +55,8 @@ fn entries_of<'t>(alloc: Global, text: &[u8], list: &'t [Token]) -> Result<Vec<&
     cut_at_commas(alloc, text, list)
 }
 
-/// The rowid that a value of the alias column gives: none for what is neither a whole number nor NULL.
+/// The rowid that a value of the alias column gives: none for what is neither a whole number nor
+/// NULL.
 fn given_rowid(value: &Value, next: Option<i64>) -> Option<i64>
     ensures { result ≡ meant.given_rowid (plain_value value.now) next }
 {
@@ -101,7 +102,8 @@ fn with_rowid(alias: Option<u32>, values: Vec<Value>, rowid: i64) -> Vec<Value>
     }
 }
 
-/// Adds a row, or counts one that isn't kept: where no rowid is left or given, or its rowid is there.
+/// Adds a row, or counts one that isn't kept: where no rowid is left or given, or its rowid is
+/// there.
 fn place_row(
     state: &mut State,
     table: u32,
@@ -203,8 +205,8 @@ fn read_three(
     Ok(Some(Given { table, index, stat }))
 }
 
-/// Keeps the figures of an INSERT into `sqlite_stat1`; any other INSERT into a table that isn't read
-/// is passed over.
+/// Keeps the figures of an INSERT into `sqlite_stat1`; any other INSERT into a table that isn't
+/// read is passed over.
 fn insert_other(
     alloc: Global,
     text: &[u8],

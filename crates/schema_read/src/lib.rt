@@ -1,5 +1,5 @@
-//! Reads a dump, as the shell's `.dump` writes it (<https://sqlite.org/cli.html>), into a schema and
-//! its rows.
+//! Reads a dump, as the shell's `.dump` writes it (<https://sqlite.org/cli.html>), into a schema
+//! and its rows.
 #![tactic(auto)]
 
 mod autoindexes;

@@ -47,8 +47,8 @@ fn point_place(bytes: &[u8]) -> Option<usize>
     )
 }
 
-/// Appends a number as values write it: with a digit on both sides of its point, and without zeros at
-/// its end.
+/// Appends a number as values write it: with a digit on both sides of its point, and without zeros
+/// at its end.
 fn append_number(written: &mut Bytes, bytes: &[u8]) -> Result<(), Memory>
     ensures { OnOk result (written.new ≡ written.old ++ meant.number_text bytes.now) }
 {

@@ -9,8 +9,8 @@ use schema_model::{Schema, add_unread, name_taken};
 use sql_value::{Bytes, Items, Memory, fold};
 use std::alloc::Global;
 
-/// A row of `sqlite_stat1`, which ANALYZE writes (<https://sqlite.org/lang_analyze.html>): figures of
-/// an index, or of a table where no index is named.
+/// A row of `sqlite_stat1`, which ANALYZE writes (<https://sqlite.org/lang_analyze.html>): figures
+/// of an index, or of a table where no index is named.
 #[derive(Drop)]
 pub struct Given {
     pub table: Bytes,

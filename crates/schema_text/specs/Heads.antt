@@ -46,7 +46,8 @@ abbrev pub is_partial : List ℕ → List Token → Option Bool
 is_partial text [] = Some false
 is_partial text (t ∷ ts) = option_map (λ rest. true) (after_word text (codes "where") (t ∷ ts))
 
--- INDEX, IF NOT EXISTS or not, the name, ON, the table, the list in parentheses, and WHERE or nothing
+-- INDEX, IF NOT EXISTS or not, the name, ON, the table, the list in parentheses, and WHERE or
+-- nothing
 abbrev pub index_head : List ℕ → Bool → List Token → Option IndexHead
 index_head text unique ts =
     option_and_then (λ a. option_and_then (λ index. option_and_then (λ b. option_and_then (λ table.

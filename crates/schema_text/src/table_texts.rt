@@ -218,8 +218,8 @@ fn with_alias(columns: Columns, alias: Option<u32>) -> Columns
     }
 }
 
-/// The table of columns that are sound, with its keys. The guard never holds: the alias is one of the
-/// columns.
+/// The table of columns that are sound, with its keys. The guard never holds: the alias is one of
+/// the columns.
 fn finish_table(
     alloc: Global,
     text: &[u8],

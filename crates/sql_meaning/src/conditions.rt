@@ -8,8 +8,8 @@ pub fn values_depend_on_named_items()
     ensures { ValuesDependOnNamedItems }
 {}
 
-/// The ON and WHERE conditions hold exactly where each of their conjuncts does: for the common ones,
-/// and for those of each LEFT JOIN.
+/// The ON and WHERE conditions hold exactly where each of their conjuncts does: for the common
+/// ones, and for those of each LEFT JOIN.
 pub fn conjuncts_say_their_conditions()
     ensures { ConjunctsSayTheirConditions }
 {}

@@ -13,8 +13,8 @@ pub fn terms_say_their_conjuncts()
 {}
 
 /// Where the conjuncts hold, columns that they link are equal, under the collation that all of them
-/// own. And the columns that are listed as linked with a column are all those that links and chains of
-/// links join with it, and no others.
+/// own. And the columns that are listed as linked with a column are all those that links and chains
+/// of links join with it, and no others.
 pub fn linked_columns_are_equal()
     ensures equal { LinkedColumnsAreEqual }
     ensures listed { ListsHaveTheLinkedColumns }

@@ -8,8 +8,8 @@ ghost use Rattle.sql_meaning.specs.PlanLaws.{OfferedPlansMean, PlansGiveTheOrder
 /// plan, and take any assignments of the items to its left, missing rows among them. Then the
 /// block's loops, in any order, give the extensions by one row of each of its items on which the
 /// common conjuncts hold that are first known in the block, but for some that are left out. One is
-/// left out only where for each choice of rows or missing rows of the items to the right some common
-/// conjunct fails: a derived equality or a union may drop it early.
+/// left out only where for each choice of rows or missing rows of the items to the right some
+/// common conjunct fails: a derived equality or a union may drop it early.
 pub fn blocks_leave_out_what_fails()
     ensures { BlocksLeaveOutWhatFails }
 {}
@@ -26,8 +26,8 @@ pub fn plans_give_the_order()
 {}
 
 /// A plan whose loops are offers, with the flags that its order state asks, means its statement: on
-/// every database of its schema and for all parameters it gives the statement's rows, as often and in
-/// the asked order.
+/// every database of its schema and for all parameters it gives the statement's rows, as often and
+/// in the asked order.
 pub fn offered_plans_mean()
     ensures { OfferedPlansMean }
 {}

@@ -4,9 +4,9 @@
 ghost use Rattle.sql_meaning.specs.ChoiceLaws.{IndexScansAreOffers, IndexSeeksAreOffers};
 ghost use Rattle.sql_meaning.specs.ChoiceLaws.{RowidSeeksAreOffers, TableScansAreOffers, UnionsAreOffers};
 
-/// A scan of the table or of an index is an offer for each item that isn't placed; and so are the seek
-/// by rowid and the seek by an index that are chosen of an item's terms, and a union with a chosen
-/// seek for each branch of an OR.
+/// A scan of the table or of an index is an offer for each item that isn't placed; and so are the
+/// seek by rowid and the seek by an index that are chosen of an item's terms, and a union with a
+/// chosen seek for each branch of an OR.
 pub fn chosen_paths_are_offers()
     ensures table_scans { TableScansAreOffers }
     ensures index_scans { IndexScansAreOffers }

@@ -1,5 +1,5 @@
--- The grammar of expressions by its levels of precedence: which lexemes spell a tree, apart from how they are
--- read. A run may be split at any place.
+-- The grammar of expressions by its levels of precedence: which lexemes spell a tree, apart from
+-- how they are read. A run may be split at any place.
 use Rattle.std.specs.Prelude.{◌≡◌, ℕ, ℤ, Bool, true, false, Option, None, Some, List, [], ◌∷◌, ◌++◌}
 use Rattle.sql_meaning.specs.Values.{Value}
 use Rattle.sql_meaning.specs.Values as value

@@ -35,8 +35,8 @@ number_by met next = Some (met.greatest + 1)
 number_by met (numbered digits) = digits_up_to 32766 digits
 number_by met (named name) = Some (unwrap_or (number_named name met.named) (met.greatest + 1))
 
--- `?n` is n; `?` is one more than the greatest number so far; a name has the number that it had before, else
--- one more than the greatest so far.
+-- `?n` is n; `?` is one more than the greatest number so far; a name has the number that it had
+-- before, else one more than the greatest so far.
 unfoldable pub parameter_number : Met → List ℕ → Option ℕ
 parameter_number met bytes = number_by met (form_of bytes)
 

@@ -52,7 +52,8 @@ unfoldable pub is_minus : Terminal → Bool
 is_minus (terminal.Symbol symbol.Minus) = true
 is_minus _ = false
 
--- whether a number token is outside the profile; the flag says whether `-` stands directly before the first
+-- whether a number token is outside the profile; the flag says whether `-` stands directly before
+-- the first
 abbrev pub outside_from : List ℕ → Bool → List Token → Bool
 outside_from text negative [] = false
 outside_from text negative (t ∷ ts) = is_outside text negative t

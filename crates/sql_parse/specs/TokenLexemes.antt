@@ -97,7 +97,8 @@ abbrev pub parameter_lexeme : Option ℕ → Lexeme
 parameter_lexeme None = lexeme.Other
 parameter_lexeme (Some n) = lexeme.Param n
 
--- The lexeme that a token is, by what the grammar sees of it, its text, its value and the parameters before it.
+-- The lexeme that a token is, by what the grammar sees of it, its text, its value and the
+-- parameters before it.
 abbrev pub lexeme_by : Terminal → List ℕ → List ℕ → Met → Lexeme
 lexeme_by (terminal.Keyword k) bytes value met = keyword_lexeme k bytes
 lexeme_by terminal.Word bytes value met = lexeme.Name bytes None

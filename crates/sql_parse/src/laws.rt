@@ -12,8 +12,8 @@ pub fn at_most_one_tree()
         IsSpelled run one → IsSpelled run other → one ≡ other }
 {}
 
-/// Descending once from left to right reads the statement that the grammar, which may split a run at
-/// any place, spells; and nothing else.
+/// Descending once from left to right reads the statement that the grammar, which may split a run
+/// at any place, spells; and nothing else.
 pub fn spelled_where_read()
     ensures read { (run : List Lexeme) (one : StatementTree) →
         whole_at run ≡ Some one → IsSpelled run one }

@@ -63,8 +63,8 @@ impl Parameters {
         }
     }
 
-    /// One more than the greatest so far, which is now the greatest. Memory is answered too where 32
-    /// bits can't hold it, which takes a text of four billion bytes.
+    /// One more than the greatest so far, which is now the greatest. Memory is answered too where
+    /// 32 bits can't hold it, which takes a text of four billion bytes.
     fn take_next(&mut self) -> Result<u32, Memory>
         ensures { IfOk result (λ n. (n ≡ self.old.greatest + 1)
             × (self.new ≡ record { greatest = self.old.greatest + 1; named = self.old.named })) }

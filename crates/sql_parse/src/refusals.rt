@@ -92,8 +92,8 @@ fn refusal(text: &[u8], tokens: &[Token]) -> Option<ParseFault>
 }
 
 /// The one statement that a run of tokens spells, all of them. Refusals are tested in the order of
-/// `ParseFault`; `Syntax` is answered exactly where none of those before it holds and no tree is spelled,
-/// and `Memory` only where the statement isn't refused before.
+/// `ParseFault`; `Syntax` is answered exactly where none of those before it holds and no tree is
+/// spelled, and `Memory` only where the statement isn't refused before.
 ///
 /// <https://www.sqlite.org/lang_select.html>, <https://www.sqlite.org/lang_update.html>,
 /// <https://www.sqlite.org/lang_delete.html>, <https://www.sqlite.org/lang_expr.html>

@@ -75,6 +75,7 @@ abbrev pub ended : {A : Type 0} → A → List Lexeme → Option A
 ended x [] = Some x
 ended x (t ∷ ts) = None
 
--- The statement that all the lexemes are. No level stands within itself more often than there are lexemes.
+-- The statement that all the lexemes are. No level stands within itself more often than there are
+-- lexemes.
 unfoldable pub whole_at : List Lexeme → Option StatementTree
 whole_at ts = statement_at (expr_at (below (length ts))) ts >>= λ s. ended s.0 s.1

@@ -1,7 +1,8 @@
-//! One function for each level of expressions. Each gives what reading gives, unless memory runs out.
+//! One function for each level of expressions. Each gives what reading gives, unless memory runs
+//! out.
 //!
-//! `depth` bounds how often a level may stand within itself, in parentheses or behind NOT or `+`. Lists of
-//! members are loops.
+//! `depth` bounds how often a level may stand within itself, in parentheses or behind NOT or `+`.
+//! Lists of members are loops.
 ghost use Rattle.std.specs.Prelude.{[], map};
 ghost use Rattle.sql_tree.specs.Trees.{Tree, tree_of};
 ghost use Rattle.sql_read.specs.Lexemes.{seen};
@@ -130,7 +131,8 @@ fn right<'a>(
     Ok((sql_tree::cmp(arena, op, left, other)?, rest))
 }
 
-/// The bounds of BETWEEN. An operand holds no AND outside parentheses, so the first one is BETWEEN's.
+/// The bounds of BETWEEN. An operand holds no AND outside parentheses, so the first one is
+/// BETWEEN's.
 #[cycle(descent)]
 #[tactic(auto, unfolding(crate::specs::Expressions::between_at))]
 fn between<'a>(
@@ -294,7 +296,8 @@ fn members<'a>(
         (list_at (member_at (below depth) joint) (after (joint_mark joint))
         (member_at (below depth) joint) (seen lexemes.now)) }
 {
-    // Within the cycle of the levels the check infers nothing of a closure, so this one says what it gives.
+    // Within the cycle of the levels the check infers nothing of a closure, so this one says what
+    // it gives.
     let read = |left| -> Read
         ensures { Gives (λ x. (tree_of x.0, seen x.1.now)) result
             (member_at (below depth) joint (seen left.now)) }

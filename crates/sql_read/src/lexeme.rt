@@ -64,7 +64,8 @@ pub enum Lexeme<'a> {
     Text(&'a [u8]),
     /// The bytes that a blob's digits stand for.
     Blob(&'a [u8]),
-    /// A number of digits alone, without sign: up to 2^63, which stands for the least i64 behind `-`.
+    /// A number of digits alone, without sign: up to 2^63, which stands for the least i64 behind
+    /// `-`.
     Int(u64),
     /// A number with a point, without sign, in units of 1/10000.
     Dec(u64),

@@ -1,4 +1,5 @@
-//! From lexemes to trees: one function for each level of the grammar, descending once from left to right.
+//! From lexemes to trees: one function for each level of the grammar, descending once from left to
+//! right.
 #![tactic(auto)]
 
 mod cursor;

@@ -1,4 +1,5 @@
--- What a statement is seen as: trees for its expressions, bytes for its names, lists for its slices.
+-- What a statement is seen as: trees for its expressions, bytes for its names, lists for its
+-- slices.
 use Rattle.std.specs.Prelude.{ℕ, Bool, Option, option_map, List, map}
 use Rattle.std.specs.Borrow.{Bor}
 use Rattle.sql_tree.specs.Trees.{Tree, tree_of}

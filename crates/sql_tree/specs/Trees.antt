@@ -1,4 +1,5 @@
--- The tree that an expression is seen as: values in place of references, and lists in place of slices.
+-- The tree that an expression is seen as: values in place of references, and lists in place of
+-- slices.
 use Rattle.std.specs.Prelude.{ℕ, Bool, Option, option_map, List, [], ◌∷◌, map}
 use Rattle.sql_tree.specs.declared.expression.Op.{Op}
 use Rattle.sql_tree.specs.declared.expression.Lit.{Lit as Constant}

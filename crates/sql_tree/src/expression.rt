@@ -1,7 +1,7 @@
 //! Expressions as they are written, before names are looked up.
 //!
-//! An expression borrows its names from the statement's text or from the arena, and its parts from the
-//! arena, so it is copied as a few words. Parentheses leave no trace in it.
+//! An expression borrows its names from the statement's text or from the arena, and its parts from
+//! the arena, so it is copied as a few words. Parentheses leave no trace in it.
 
 /// A constant as it is written: datatype3's storage classes, with decimals in place of floats.
 #[derive(Clone, Copy)]
@@ -51,8 +51,8 @@ pub enum Expr<'a> {
 
 /// The members of an expression, in the order in which they are written.
 ///
-/// The slice stands in a struct of its own because an enum may not hold a slice of references to its own
-/// recursion.
+/// The slice stands in a struct of its own because an enum may not hold a slice of references to
+/// its own recursion.
 #[derive(Clone, Copy)]
 #[cycle(expr)]
 pub struct Exprs<'a> {

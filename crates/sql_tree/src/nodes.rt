@@ -1,4 +1,5 @@
-//! One maker for each form of an expression that has parts: it places them, and says which tree results.
+//! One maker for each form of an expression that has parts: it places them, and says which tree
+//! results.
 ghost use Rattle.std.specs.Prelude.{◌≡◌, IfOk, option_map, map};
 ghost use Rattle.sql_tree.specs.Trees.{tree_of, trees};
 ghost use Rattle.sql_tree.specs.Trees as tree;

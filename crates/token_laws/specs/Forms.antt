@@ -51,7 +51,8 @@ abbrev pub exponent : Form
 exponent = byte_then (λ b. b == 101 || b == 69)
     (either digits (byte_then (λ b. b == 43 || b == 45) digits))
 
--- digits, digits with a point, or a point and digits, each with an exponent or without; or hexadecimal
+-- digits, digits with a point, or a point and digits, each with an exponent or without; or
+-- hexadecimal
 abbrev pub decimal : Form
 decimal =
     either (some_then is_ascii_digit (either (maybe exponent)
@@ -97,7 +98,8 @@ abbrev pub doubled : ℕ → List ℕ → List ℕ
 doubled q [] = []
 doubled q (b ∷ bs) = cond (b == q) (q ∷ q ∷ doubled q bs) (b ∷ doubled q bs)
 
--- the first n bytes are a value with each quote doubled, and then the quote that closes: no quote follows it
+-- the first n bytes are a value with each quote doubled, and then the quote that closes: no quote
+-- follows it
 pub record Closed (q : ℕ) (bs : List ℕ) (n : ℕ) : Type 0 where
   pub value : List ℕ
   pub rest : List ℕ

@@ -166,8 +166,8 @@ fn refuses_by_name(rt: HostRuntime) -> Result<(), Fail> {
 fn says_which_outside_call_failed(rt: HostRuntime) -> Result<(), Fail> {
     let alloc = rt.alloc();
     let words = words_of(alloc, &["-sql", "SELECT * FROM x1", "db"])?;
-    // The call of the shelf that fails and the most bytes of a read; the call of `out` that fails and
-    // the most bytes of a write; the status, and what `out` holds then.
+    // The call of the shelf that fails and the most bytes of a read; the call of `out` that fails
+    // and the most bytes of a write; the status, and what `out` holds then.
     for (reading, read, writing, written, status, held) in [
         (NEVER, 1u64, NEVER, 999u64, 0u8, SCAN),
         (NEVER, 65_536, NEVER, 1, 0, SCAN),

@@ -175,8 +175,8 @@ fn summary_of(alloc: Global, dump: &Dump) -> Result<Bytes, Memory> {
     Ok(summary.written)
 }
 
-/// Dumps, and the tables with their columns (affinity, collation), rowids' names and rows, the count of
-/// tables that aren't read, the indexes, the figures, and what was passed over.
+/// Dumps, and the tables with their columns (affinity, collation), rowids' names and rows, the
+/// count of tables that aren't read, the indexes, the figures, and what was passed over.
 const DUMPS: &[(&[u8], &[u8])] = &[
     (
         b"CREATE TABLE t(a INT, b); INSERT INTO t VALUES('7',x'00'); INSERT INTO t VALUES(1);",

@@ -3,8 +3,8 @@ use schema_text::{create_index_head, create_table_head, create_unread_head, read
 use sql_tokens::{lex, token_text};
 use std::test::Fail;
 
-/// CREATE TABLE with how many columns it has, which of them is the rowid, and how many keys there are;
-/// nothing where it isn't read.
+/// CREATE TABLE with how many columns it has, which of them is the rowid, and how many keys there
+/// are; nothing where it isn't read.
 const TABLES: &[(&[u8], Option<(usize, Option<u32>, usize)>)] = &[
     (b"CREATE TABLE t(a, b INT)", Some((2, None, 0))),
     (
