@@ -1,13 +1,12 @@
 -- Tokens whose lexemes are readable: none is bad, and no number is outside the profile. So a
 -- spelled statement is refused for its depth alone.
-use Rattle.std.proofs.Common.{◌≡◌, ℕ, ◌+◌, ◌*◌, ◌^◌, ◌≤◌, ◌<◌, Bool, true, false, not, ◌&&◌, cond, nat_lt}
+use Rattle.std.proofs.Common.{◌≡◌, ℕ, ◌+◌, ◌*◌, ◌^◌, ◌≤◌, ◌<◌, Bool, true, false, not, cond, nat_lt}
 use Rattle.std.proofs.Common.{nat_le, if◌then◌else◌, Option, None, Some, option_map, option_and_then, position}
 use Rattle.std.proofs.Common.{List, [], ◌∷◌, ◌++◌, length, take, drop, refl, ap, ◌∙◌, subst, arith}
-use Rattle.std.specs.Str.{all_ascii_digits}
-use Rattle.sql_meaning.specs.Numbers.{Digits, bare, pointed, digits_behind, digits_up_to}
+use Rattle.sql_meaning.specs.Numbers.{bare, pointed, digits_up_to}
 use Rattle.sql_meaning.specs.Numbers.{last_digit_units, is_point}
 use Rattle.sql_meaning.specs.Values.{without_trailing}
-use Rattle.sql_meaning.proofs.Reading.{read_is_value}
+use Rattle.sql_meaning.proofs.Reading.{read_is_value, upto_parts}
 use Rattle.sql_value.specs.declared.keywords.Keyword.{Keyword}
 use Rattle.sql_value.specs.declared.keywords.Keyword.TheVariants as keyword
 use Rattle.sql_value.specs.Reserved.{is_reserved_word}
@@ -49,18 +48,6 @@ IsBelow None = Unit {0}
 IsBelow (Some (number.Int n)) = Unit {0}
 IsBelow (Some (number.Dec units)) = units < 10 ^ 15
 
-chosen :
-    (b : Bool) (n most m : ℕ) → (if b && nat_le n most then Some n else None) ≡ Some m
-    → (b ≡ true) × (n ≤ most) × (n ≡ m)
-chosen b n most m e = grind arith
-
-digits_are :
-    (most n : ℕ) (ds : List ℕ) → digits_up_to most ds ≡ Some n → Digits ds n × (n ≤ most)
-digits_are most n [] e = cc
-digits_are most n (c ∷ cs) e =
-    let p = chosen (all_ascii_digits (c ∷ cs)) (digits_behind 0 (c ∷ cs)) most n e in
-    (record { some = omega arith; all = p.0; value = p.2 }, subst (λ (k : ℕ). k ≤ most) p.2 p.1)
-
 below_where :
     (b : Bool) (units : ℕ) → (b ≡ true → units < 10 ^ 15)
     → IsBelow (if b then Some (number.Dec units) else None)
@@ -82,8 +69,8 @@ decimal_below :
 decimal_below ds fs None p d e = tt
 decimal_below ds fs (Some n) None d e = tt
 decimal_below ds fs (Some n) (Some f) d e =
-    let whole = digits_are 99999999999 n ds d in
-    let part = digits_are 9999 f fs e in
+    let whole = upto_parts 99999999999 n ds d in
+    let part = upto_parts 9999 f fs e in
     below_where (nat_le (length fs) 4) (n * 10000 + f * last_digit_units (length fs)) (λ b.
     read_is_value (ds ++ 46 ∷ fs) _
     (pointed bare whole.0 part.0 (at_most (length fs) 4 b) (omega (arith, whole.1)) refl))

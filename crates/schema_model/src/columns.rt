@@ -4,7 +4,7 @@ ghost use Rattle.schema_model.specs.Columns.{has_column_name, as_rowid};
 
 use crate::names::folded_key;
 use indexmap::IndexMap;
-use sql_value::{Affinity, Bytes, Collation, Items, Memory};
+use sql_value::{Affinity, Bytes, Collation, Memory};
 use std::alloc::Global;
 use std::marker::Model;
 

@@ -61,7 +61,7 @@ fn run(alloc: Global, words: &[&str], dump: &str) -> Result<Ran, Memory> {
 }
 
 /// The same where the report has so much room.
-fn run_within(alloc: Global, words: &Words, dump: &str, room: usize) -> Result<Ran, Memory> {
+fn run_within(alloc: Global, words: &Words, dump: &str, room: u64) -> Result<Ran, Memory> {
     let mut shelf = shelf(alloc, dump, NEVER, 7)?;
     let mut out = MemorySink::new(alloc, room, Calls::new(alloc), 9_999)?;
     let mut err = MemorySink::new(alloc, 999, Calls::new(alloc), 999)?;

@@ -5,7 +5,7 @@ use sql_value::{Affinity, Bytes, Collation, Memory, Value};
 use std::alloc::Global;
 use std::test::Fail;
 
-/// Writes what a dump holds, in the form of the table below.
+/// Writes what a dump holds, in the form of the table below: a part a line.
 #[derive(Drop)]
 struct Summary {
     alloc: Global,
@@ -63,7 +63,7 @@ fn add_table(summary: &mut Summary, table: &Table) -> Result<(), Memory> {
         add(summary, b"@")?;
         add_number(summary, alias as i64)?;
     }
-    add(summary, b";")
+    add(summary, b"\n")
 }
 
 fn add_value(summary: &mut Summary, value: &Value) -> Result<(), Memory> {
@@ -98,7 +98,7 @@ fn add_row(summary: &mut Summary, row: &Row) -> Result<(), Memory> {
         }
         add_value(summary, value)?;
     }
-    add(summary, b";")
+    add(summary, b"\n")
 }
 
 fn add_index(summary: &mut Summary, index: &Index) -> Result<(), Memory> {
@@ -118,7 +118,7 @@ fn add_index(summary: &mut Summary, index: &Index) -> Result<(), Memory> {
     add(summary, b")")?;
     add(summary, if index.unique { b" unique" } else { b"" })?;
     add(summary, if index.usable { b"" } else { b" unusable" })?;
-    add(summary, b";")
+    add(summary, b"\n")
 }
 
 fn add_tables(summary: &mut Summary, dump: &Dump) -> Result<(), Memory> {
@@ -137,7 +137,7 @@ fn add_schema(summary: &mut Summary, schema: &Schema) -> Result<(), Memory> {
     if schema.unread_count() > 0 {
         add(summary, b"U ")?;
         add_number(summary, schema.unread_count() as i64)?;
-        add(summary, b";")?;
+        add(summary, b"\n")?;
     }
     for number in 0..schema.index_count() {
         add_index(summary, schema.index(number))?;
@@ -155,7 +155,7 @@ fn add_given(summary: &mut Summary, given: &Given) -> Result<(), Memory> {
     }
     add(summary, b"|")?;
     add(summary, given.stat.as_slice())?;
-    add(summary, b";")
+    add(summary, b"\n")
 }
 
 fn summary_of(alloc: Global, dump: &Dump) -> Result<Bytes, Memory> {
@@ -175,98 +175,161 @@ fn summary_of(alloc: Global, dump: &Dump) -> Result<Bytes, Memory> {
     Ok(summary.written)
 }
 
-/// Dumps, and the tables with their columns (affinity, collation), rowids' names and rows, the
-/// count of tables that aren't read, the indexes, the figures, and what was passed over.
-const DUMPS: &[(&[u8], &[u8])] = &[
-    (
-        b"CREATE TABLE t(a INT, b); INSERT INTO t VALUES('7',x'00'); INSERT INTO t VALUES(1);",
-        b"T t(a:IB,b:BB);R 1=i7,b\0;P 0 1",
-    ),
-    (
-        b"CREATE TABLE t(id INTEGER PRIMARY KEY, a UNIQUE); INSERT INTO t VALUES(5,1); INSERT INTO t VALUES(NULL,2);",
-        b"T t(id:IB,a:BB)@0;R 5=i5,i1;R 6=i6,i2;I sqlite_autoindex_t_1 0(1B) unique;P 0 0",
-    ),
-    (
-        b"CREATE TABLE t(a) WITHOUT ROWID; INSERT INTO t VALUES(1);",
-        b"U 1;P 1 0",
-    ),
-    (
-        b"CREATE TABLE \"t\"(\"id\" INTEGER, \"a\", PRIMARY KEY(\"id\" AUTOINCREMENT)); INSERT INTO t VALUES(4,'x');",
-        b"T t(id:IB,a:BB)@0;R 4=i4,tx;P 0 0",
-    ),
-    (
-        b"CREATE TABLE t(a); CREATE TABLE T(b); CREATE TABLE sqlite_x(c); CREATE VIEW t AS SELECT 1;",
-        b"T t(a:BB);P 3 0",
-    ),
-    (
-        b"CREATE TEMP TABLE IF NOT EXISTS main.'t'([a b] VARCHAR(1,2) COLLATE nocase COLLATE rtrim, c REAL DEFAULT (1+(2)) CHECK(c>0))",
-        b"T t(a b:TR,c:RB);P 0 0",
-    ),
-    (
-        b"CREATE TABLE t(a COLLATE french); CREATE TABLE u(a COLLATE french COLLATE binary); CREATE TABLE v(a, b AS (a)); CREATE TABLE w(a, A);",
-        b"T u(a:BB);U 3;P 0 0",
-    ),
-    (
-        b"CREATE TABLE t(a INTEGER PRIMARY KEY DESC, b); INSERT INTO t VALUES(7,8);",
-        b"T t(a:IB,b:BB);R 1=i7,i8;I sqlite_autoindex_t_1 0(0B-) unique;P 0 0",
-    ),
-    (
-        b"CREATE TABLE t(a INTEGER, b, PRIMARY KEY(a DESC)); INSERT INTO t VALUES('3',8); INSERT INTO t VALUES(NULL,1); INSERT INTO t VALUES(1.5,1);",
-        b"T t(a:IB,b:BB)@0;R 3=i3,i8;R 4=i4,i1;P 0 1",
-    ),
-    (
-        b"CREATE TABLE t(a PRIMARY KEY, b PRIMARY KEY); CREATE TABLE u(a, UNIQUE(b)); CREATE TABLE v(a, UNIQUE(a COLLATE x));",
-        b"U 3;P 0 0",
-    ),
-    (
-        b"CREATE TABLE t(a UNIQUE, b, UNIQUE(a DESC), CONSTRAINT k UNIQUE(a, b COLLATE NOCASE DESC) ON CONFLICT IGNORE, UNIQUE(a, b), UNIQUE(a+1), PRIMARY KEY(b))",
-        b"T t(a:BB,b:BB);I sqlite_autoindex_t_1 0(0B) unique;I sqlite_autoindex_t_2 0(0B,1N-) unique;I sqlite_autoindex_t_3 0(0B,1B) unique;I sqlite_autoindex_t_4 0(1B) unique;P 0 0",
-    ),
-    (
-        b"CREATE TABLE t(a ANY) STRICT; CREATE TABLE u(a ANY); CREATE TABLE v(a INT) STRICT, STRICT; CREATE TABLE w(a) STRICT,;",
-        b"T u(a:NB);T v(a:IB);U 2;P 0 0",
-    ),
-    (
-        b"CREATE VIRTUAL TABLE IF NOT EXISTS v USING fts5(x); CREATE TEMPORARY VIEW w AS SELECT 1; CREATE TABLE x AS SELECT 1; INSERT INTO v VALUES(1);",
-        b"U 3;P 1 0",
-    ),
-    (
-        b"CREATE TABLE t(a, b); CREATE UNIQUE INDEX i ON t(b DESC, A COLLATE rtrim); CREATE INDEX j ON t(a) WHERE a>1; CREATE INDEX k ON t(a+1); CREATE INDEX I ON t(a); CREATE INDEX l ON nope(a); CREATE INDEX m ON t(zz);",
-        b"T t(a:BB,b:BB);I i 0(1B-,0R) unique;I j 0() unusable;I k 0() unusable;I m 0() unusable;P 2 0",
-    ),
-    (
-        b"CREATE TABLE t(a); INSERT INTO t VALUES(replace('a','b','c')); INSERT INTO t VALUES(1e5); INSERT INTO t VALUES(-1.50000); INSERT INTO t VALUES(+.5); INSERT INTO t VALUES(99999999999999999999); INSERT INTO t VALUES(-9223372036854775808); INSERT INTO t VALUES(9223372036854775808); INSERT INTO t VALUES('it''s'); INSERT INTO t VALUES(1,2); INSERT INTO t(a) VALUES(1); INSERT INTO t VALUES(1),(2);",
-        b"T t(a:BB);R 1=d-15000;R 2=d5000;R 3=i-9223372036854775808;R 4=tit's;P 2 5",
-    ),
-    (
-        b"CREATE TABLE t(id INTEGER PRIMARY KEY, a); INSERT INTO t VALUES(9223372036854775807,1); INSERT INTO t VALUES(NULL,2); INSERT INTO t VALUES(-5,3); INSERT INTO t VALUES(-5,4); INSERT INTO t VALUES('x',5); INSERT INTO t VALUES(2.0,6);",
-        b"T t(id:IB,a:BB)@0;R -5=i-5,i3;R 2=i2,i6;R 9223372036854775807=i9223372036854775807,i1;P 0 3",
-    ),
-    (
-        b"CREATE TABLE t(a REAL, b TEXT, c NUMERIC, d BLOB); INSERT INTO t VALUES(1,1,'1.0','1'); INSERT INTO t VALUES('1.5',1.50,1.25,x'4142');",
-        b"T t(a:RB,b:TB,c:NB,d:BB);R 1=d10000,t1,i1,t1;R 2=d15000,t1.5,d12500,bAB;P 0 0",
-    ),
-    (
-        b"INSERT INTO sqlite_stat1 VALUES('t','i','10 1'); INSERT INTO sqlite_stat1 VALUES('t',NULL,'10'); INSERT INTO sqlite_stat1 VALUES('t',1,'10'); ANALYZE sqlite_schema;",
-        b"G t|i|10 1;G t|-|10;P 2 0",
-    ),
-    (
-        b"CREATE TABLE t(a); CREATE TRIGGER r AFTER INSERT ON t BEGIN INSERT INTO t VALUES(1); DELETE FROM t; END; INSERT INTO t VALUES();",
-        b"T t(a:BB);P 1 1",
-    ),
-    (
-        b"CREATE TABLE t(); CREATE TABLE u(a,,b); CREATE TABLE v(CHECK(1)); CREATE TABLE sqlite_autoindex_w_1(a); CREATE TABLE w(a UNIQUE, b UNIQUE);",
-        b"T v();T w(a:BB,b:BB);U 2;I sqlite_autoindex_w_1 1(0B) unique;I sqlite_autoindex_w_2 1(1B) unique;P 1 0",
-    ),
-    (
-        b"CREATE TABLE t(id INTEGER PRIMARY KEY UNIQUE, a); CREATE TABLE u(a INT PRIMARY KEY, b, PRIMARY KEY(b)); CREATE TABLE v(a INT PRIMARY KEY);",
-        b"T t(id:IB,a:BB)@0;T v(a:IB);U 1;I sqlite_autoindex_v_1 1(0B) unique;P 0 0",
-    ),
-    (
-        b"CREATE TABLE t(a INTEGER GENERATED ALWAYS AS (1)); CREATE TABLE u(a DEFAULT (CAST(1 AS INT))); CREATE INDEX n ON u(a COLLATE french); CREATE INDEX main.o ON u(a ASC); CREATE INDEX sqlite_i ON u(a);",
-        b"T u(a:BB);U 1;I n 0() unusable;I o 0(0B);P 1 0",
-    ),
-];
+/// Dumps, and behind `=>` the tables with their columns (affinity, collation), rowids' names and
+/// rows, the count of tables that aren't read, the indexes, the figures, and what was passed over.
+const DUMPS: &str = "
+CREATE TABLE t(a INT, b); INSERT INTO t VALUES('7',x'00'); INSERT INTO t VALUES(1);
+=> T t(a:IB,b:BB)
+R 1=i7,b\0
+P 0 1
+
+CREATE TABLE t(id INTEGER PRIMARY KEY, a UNIQUE); INSERT INTO t VALUES(5,1);
+INSERT INTO t VALUES(NULL,2);
+=> T t(id:IB,a:BB)@0
+R 5=i5,i1
+R 6=i6,i2
+I sqlite_autoindex_t_1 0(1B) unique
+P 0 0
+
+CREATE TABLE t(a) WITHOUT ROWID; INSERT INTO t VALUES(1);
+=> U 1
+P 1 0
+
+CREATE TABLE \"t\"(\"id\" INTEGER, \"a\", PRIMARY KEY(\"id\" AUTOINCREMENT));
+INSERT INTO t VALUES(4,'x');
+=> T t(id:IB,a:BB)@0
+R 4=i4,tx
+P 0 0
+
+CREATE TABLE t(a); CREATE TABLE T(b); CREATE TABLE sqlite_x(c); CREATE VIEW t AS SELECT 1;
+=> T t(a:BB)
+P 3 0
+
+CREATE TEMP TABLE IF NOT EXISTS main.'t'([a b] VARCHAR(1,2) COLLATE nocase COLLATE rtrim,
+c REAL DEFAULT (1+(2)) CHECK(c>0))
+=> T t(a b:TR,c:RB)
+P 0 0
+
+CREATE TABLE t(a COLLATE french); CREATE TABLE u(a COLLATE french COLLATE binary);
+CREATE TABLE v(a, b AS (a)); CREATE TABLE w(a, A);
+=> T u(a:BB)
+U 3
+P 0 0
+
+CREATE TABLE t(a INTEGER PRIMARY KEY DESC, b); INSERT INTO t VALUES(7,8);
+=> T t(a:IB,b:BB)
+R 1=i7,i8
+I sqlite_autoindex_t_1 0(0B-) unique
+P 0 0
+
+CREATE TABLE t(a INTEGER, b, PRIMARY KEY(a DESC)); INSERT INTO t VALUES('3',8);
+INSERT INTO t VALUES(NULL,1); INSERT INTO t VALUES(1.5,1);
+=> T t(a:IB,b:BB)@0
+R 3=i3,i8
+R 4=i4,i1
+P 0 1
+
+CREATE TABLE t(a PRIMARY KEY, b PRIMARY KEY); CREATE TABLE u(a, UNIQUE(b));
+CREATE TABLE v(a, UNIQUE(a COLLATE x));
+=> U 3
+P 0 0
+
+CREATE TABLE t(a UNIQUE, b, UNIQUE(a DESC), CONSTRAINT k UNIQUE(a, b COLLATE NOCASE DESC)
+ON CONFLICT IGNORE, UNIQUE(a, b), UNIQUE(a+1), PRIMARY KEY(b))
+=> T t(a:BB,b:BB)
+I sqlite_autoindex_t_1 0(0B) unique
+I sqlite_autoindex_t_2 0(0B,1N-) unique
+I sqlite_autoindex_t_3 0(0B,1B) unique
+I sqlite_autoindex_t_4 0(1B) unique
+P 0 0
+
+CREATE TABLE t(a ANY) STRICT; CREATE TABLE u(a ANY); CREATE TABLE v(a INT) STRICT, STRICT;
+CREATE TABLE w(a) STRICT,;
+=> T u(a:NB)
+T v(a:IB)
+U 2
+P 0 0
+
+CREATE VIRTUAL TABLE IF NOT EXISTS v USING fts5(x); CREATE TEMPORARY VIEW w AS SELECT 1;
+CREATE TABLE x AS SELECT 1; INSERT INTO v VALUES(1);
+=> U 3
+P 1 0
+
+CREATE TABLE t(a, b); CREATE UNIQUE INDEX i ON t(b DESC, A COLLATE rtrim);
+CREATE INDEX j ON t(a) WHERE a>1; CREATE INDEX k ON t(a+1); CREATE INDEX I ON t(a);
+CREATE INDEX l ON nope(a); CREATE INDEX m ON t(zz);
+=> T t(a:BB,b:BB)
+I i 0(1B-,0R) unique
+I j 0() unusable
+I k 0() unusable
+I m 0() unusable
+P 2 0
+
+CREATE TABLE t(a); INSERT INTO t VALUES(replace('a','b','c')); INSERT INTO t VALUES(1e5);
+INSERT INTO t VALUES(-1.50000); INSERT INTO t VALUES(+.5);
+INSERT INTO t VALUES(99999999999999999999); INSERT INTO t VALUES(-9223372036854775808);
+INSERT INTO t VALUES(9223372036854775808); INSERT INTO t VALUES('it''s');
+INSERT INTO t VALUES(1,2); INSERT INTO t(a) VALUES(1); INSERT INTO t VALUES(1),(2);
+=> T t(a:BB)
+R 1=d-15000
+R 2=d5000
+R 3=i-9223372036854775808
+R 4=tit's
+P 2 5
+
+CREATE TABLE t(id INTEGER PRIMARY KEY, a); INSERT INTO t VALUES(9223372036854775807,1);
+INSERT INTO t VALUES(NULL,2); INSERT INTO t VALUES(-5,3); INSERT INTO t VALUES(-5,4);
+INSERT INTO t VALUES('x',5); INSERT INTO t VALUES(2.0,6);
+=> T t(id:IB,a:BB)@0
+R -5=i-5,i3
+R 2=i2,i6
+R 9223372036854775807=i9223372036854775807,i1
+P 0 3
+
+CREATE TABLE t(a REAL, b TEXT, c NUMERIC, d BLOB); INSERT INTO t VALUES(1,1,'1.0','1');
+INSERT INTO t VALUES('1.5',1.50,1.25,x'4142');
+=> T t(a:RB,b:TB,c:NB,d:BB)
+R 1=d10000,t1,i1,t1
+R 2=d15000,t1.5,d12500,bAB
+P 0 0
+
+INSERT INTO sqlite_stat1 VALUES('t','i','10 1'); INSERT INTO sqlite_stat1 VALUES('t',NULL,'10');
+INSERT INTO sqlite_stat1 VALUES('t',1,'10'); ANALYZE sqlite_schema;
+=> G t|i|10 1
+G t|-|10
+P 2 0
+
+CREATE TABLE t(a); CREATE TRIGGER r AFTER INSERT ON t BEGIN INSERT INTO t VALUES(1);
+DELETE FROM t; END; INSERT INTO t VALUES();
+=> T t(a:BB)
+P 1 1
+
+CREATE TABLE t(); CREATE TABLE u(a,,b); CREATE TABLE v(CHECK(1));
+CREATE TABLE sqlite_autoindex_w_1(a); CREATE TABLE w(a UNIQUE, b UNIQUE);
+=> T v()
+T w(a:BB,b:BB)
+U 2
+I sqlite_autoindex_w_1 1(0B) unique
+I sqlite_autoindex_w_2 1(1B) unique
+P 1 0
+
+CREATE TABLE t(id INTEGER PRIMARY KEY UNIQUE, a);
+CREATE TABLE u(a INT PRIMARY KEY, b, PRIMARY KEY(b)); CREATE TABLE v(a INT PRIMARY KEY);
+=> T t(id:IB,a:BB)@0
+T v(a:IB)
+U 1
+I sqlite_autoindex_v_1 1(0B) unique
+P 0 0
+
+CREATE TABLE t(a INTEGER GENERATED ALWAYS AS (1)); CREATE TABLE u(a DEFAULT (CAST(1 AS INT)));
+CREATE INDEX n ON u(a COLLATE french); CREATE INDEX main.o ON u(a ASC);
+CREATE INDEX sqlite_i ON u(a);
+=> T u(a:BB)
+U 1
+I n 0() unusable
+I o 0(0B)
+P 1 0
+";
 
 /// What the shell of SQLite 3.40.1 writes for two tables, an index, a view and a trigger.
 const SHELL_DUMP: &[u8] = b"PRAGMA foreign_keys=OFF;
@@ -287,31 +350,43 @@ COMMIT;
 ";
 
 /// The rows -3, of a call of `replace`, and 9, of 20 digits behind the point, are passed over.
-const SHELL_SUMMARY: &[u8] =
-    b"T note(id:IB,body:TB,a \"b\":BB,worth:RB,kept:BB)@0;R 1=i1,tit's \"so\",b\0\xffA,d15000,N;R 7=i7,t,b,d120000,i-9223372036854775808;R 8=i8,N,N,d-5000,i3;T log(note:IB,at:TN);R 1=i1,tMon;R 2=i7,N;U 1;I sqlite_autoindex_log_1 1(1N,0B) unique;I log_at 1(1N-);P 4 2";
+const SHELL_SUMMARY: &[u8] = b"T note(id:IB,body:TB,a \"b\":BB,worth:RB,kept:BB)@0
+R 1=i1,tit's \"so\",b\0\xffA,d15000,N
+R 7=i7,t,b,d120000,i-9223372036854775808
+R 8=i8,N,N,d-5000,i3
+T log(note:IB,at:TN)
+R 1=i1,tMon
+R 2=i7,N
+U 1
+I sqlite_autoindex_log_1 1(1N,0B) unique
+I log_at 1(1N-)
+P 4 2";
+
+/// What is read of a dump; nothing where it is refused.
+fn shown(alloc: Global, text: &[u8]) -> Result<Bytes, Memory> {
+    if text.len() > 10_000 {
+        return Ok(Bytes::new(alloc));
+    }
+    match read_dump(alloc, text) {
+        Ok(dump) if conforms(&dump.schema, &dump.rows) => summary_of(alloc, &dump),
+        _ => Ok(Bytes::new(alloc)),
+    }
+}
 
 #[test]
 fn a_shell_dump_is_read(rt: HostRuntime) -> Result<(), Fail> {
-    let Ok(dump) = read_dump(rt.alloc(), SHELL_DUMP) else {
-        assert!(rt; false);
-        return Ok(());
-    };
-    assert!(rt; conforms(&dump.schema, &dump.rows));
-    let found = summary_of(rt.alloc(), &dump)?;
+    let found = shown(rt.alloc(), SHELL_DUMP)?;
     assert_eq!(rt; found.as_slice(), SHELL_SUMMARY);
     Ok(())
 }
 
 #[test]
 fn dumps_are_read(rt: HostRuntime) -> Result<(), Fail> {
-    for (text, wanted) in DUMPS {
-        assert!(rt; text.len() < 10000);
-        let Ok(dump) = read_dump(rt.alloc(), text) else {
-            assert!(rt; false);
-            return Ok(());
-        };
-        let found = summary_of(rt.alloc(), &dump)?;
-        assert_eq!(rt; found.as_slice(), *wanted);
+    for block in DUMPS.split("\n\n") {
+        if let Some((text, wanted)) = block.split_once("\n=> ") {
+            let found = shown(rt.alloc(), text.as_bytes())?;
+            assert_eq!(rt; found.as_slice(), wanted.trim_end().as_bytes(), "{text}");
+        }
     }
     Ok(())
 }

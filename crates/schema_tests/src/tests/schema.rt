@@ -100,24 +100,19 @@ fn add_by_title(alloc: Global, schema: &mut Schema) -> Result<(), Memory> {
     add_index(alloc, schema, index)
 }
 
-fn found(schema: &Schema, name: &[u8]) -> (Found, bool) {
-    (find_table(schema, name), name_taken(schema, name))
+/// What the schema has under a name: the table, and whether the name is taken.
+fn found(alloc: Global, name: &[u8]) -> Result<(Found, bool), Memory> {
+    let schema = shop(alloc)?;
+    Ok((find_table(&schema, name), name_taken(&schema, name)))
 }
-
-/// Names, and what the schema has under them.
-const NAMES: &[(&[u8], (Found, bool))] = &[
-    (b"item", (Found::Read(0), true)),
-    (b"v", (Found::Unread, true)),
-    (b"by_title", (Found::Missing, true)),
-    (b"title", (Found::Missing, false)),
-];
 
 #[test]
 fn names_are_found(rt: HostRuntime) -> Result<(), Fail> {
-    let schema = shop(rt.alloc())?;
-    for (name, want) in NAMES {
-        assert!(rt; found(&schema, name) == *want);
-    }
+    let alloc = rt.alloc();
+    assert_eq!(rt; found(alloc, b"item")?, (Found::Read(0), true));
+    assert_eq!(rt; found(alloc, b"v")?, (Found::Unread, true));
+    assert_eq!(rt; found(alloc, b"by_title")?, (Found::Missing, true));
+    assert_eq!(rt; found(alloc, b"title")?, (Found::Missing, false));
     Ok(())
 }
 
@@ -203,31 +198,25 @@ fn one_table(alloc: Global, rows: RowList) -> Result<Tables, Memory> {
 }
 
 /// Whether a row may stand in the table behind row 1.
-fn may_follow(alloc: Global, next: Row) -> Result<bool, Memory> {
+fn may_follow(alloc: Global, rowid: i64, id: i64, price: Price<'_>) -> Result<bool, Memory> {
     let schema = shop(alloc)?;
+    let next = row(alloc, rowid, id, price)?;
     let tables = one_table(alloc, two_rows(alloc, next)?)?;
     Ok(conforms(&schema, &tables))
 }
 
-/// Rowids, ids and prices behind row 1, and whether they may stand there.
-const FOLLOWING: &[(i64, i64, Price<'static>, bool)] = &[
-    (2, 2, Price::Decimal(45000), true),
-    (2, 2, Price::Missing, true),
-    (1, 1, Price::Missing, false),
-    (0, 0, Price::Missing, false),
-    (2, 3, Price::Missing, false),
-    (2, 2, Price::Whole(4), false),
-    (2, 2, Price::Whole(100_000_000_000), true),
-    (2, 2, Price::Written(b"dear"), true),
-    (2, 2, Price::Written(b"4.5"), false),
-    (2, 2, Price::Decimal(1_000_000_000_000_000), false),
-];
-
 #[test]
 fn rows_conform(rt: HostRuntime) -> Result<(), Fail> {
-    for (rowid, id, from, want) in FOLLOWING {
-        let next = row(rt.alloc(), *rowid, *id, *from)?;
-        assert_eq!(rt; may_follow(rt.alloc(), next)?, *want, "row {rowid}");
-    }
+    let alloc = rt.alloc();
+    assert!(rt; may_follow(alloc, 2, 2, Price::Decimal(45000))?);
+    assert!(rt; may_follow(alloc, 2, 2, Price::Missing)?);
+    assert!(rt; may_follow(alloc, 2, 2, Price::Whole(100_000_000_000))?);
+    assert!(rt; may_follow(alloc, 2, 2, Price::Written(b"dear"))?);
+    assert!(rt; !may_follow(alloc, 1, 1, Price::Missing)?);
+    assert!(rt; !may_follow(alloc, 0, 0, Price::Missing)?);
+    assert!(rt; !may_follow(alloc, 2, 3, Price::Missing)?);
+    assert!(rt; !may_follow(alloc, 2, 2, Price::Whole(4))?);
+    assert!(rt; !may_follow(alloc, 2, 2, Price::Written(b"4.5"))?);
+    assert!(rt; !may_follow(alloc, 2, 2, Price::Decimal(1_000_000_000_000_000))?);
     Ok(())
 }
