@@ -162,61 +162,73 @@ fn refuses_by_name(rt: HostRuntime) -> Result<(), Fail> {
     Ok(())
 }
 
+/// A plan of a scan, where a call of the shelf fails and a read gives so many bytes at most, and the
+/// same for the writes of the report.
+fn faulty(alloc: Global, reading: u64, read: u64, writing: u64, written: u64) -> Result<Ran, Memory>
+    requires reads { 1 ≤ read }
+    requires writes { 1 ≤ written }
+{
+    let words = words_of(alloc, &["-sql", "SELECT * FROM x1", "db"])?;
+    let mut shelf = shelf(alloc, X1, reading, read)?;
+    let mut out = MemorySink::new(alloc, 999, call(alloc, writing)?, written)?;
+    let mut err = MemorySink::new(alloc, 999, Calls::new(alloc), 999)?;
+    Ok(Ran {
+        status: expert(alloc, &words, &mut shelf, &mut out, &mut err),
+        out: Bytes::copy(alloc, out.written())?,
+        err: Bytes::copy(alloc, err.written())?,
+    })
+}
+
+/// Whether the status is told, by its line, and this was written of the report.
+fn tells(ran: &Ran, status: u8, out: &str) -> bool {
+    let line = match status {
+        0 => "",
+        4 => "sqlite3_expert: cannot read db\n",
+        _ => "sqlite3_expert: cannot write\n",
+    };
+    ran.status == status
+        && ran.out.as_slice() == out.as_bytes()
+        && ran.err.as_slice() == line.as_bytes()
+}
+
 #[test]
 fn says_which_outside_call_failed(rt: HostRuntime) -> Result<(), Fail> {
     let alloc = rt.alloc();
-    let words = words_of(alloc, &["-sql", "SELECT * FROM x1", "db"])?;
-    // The call of the shelf that fails and the most bytes of a read; the call of `out` that fails
-    // and the most bytes of a write; the status, and what `out` holds then.
-    for (reading, read, writing, written, status, held) in [
-        (NEVER, 1u64, NEVER, 999u64, 0u8, SCAN),
-        (NEVER, 65_536, NEVER, 1, 0, SCAN),
-        (1, 7, NEVER, 999, 4, ""),
-        (2, 7, NEVER, 999, 4, ""),
-        (5, 7, NEVER, 999, 4, ""),
-        (6, 7, NEVER, 999, 4, ""),
-        (7, 7, NEVER, 999, 0, SCAN),
-        (NEVER, 7, 2, 10, 5, "-- Stateme"),
-        (NEVER, 7, 1, 999, 5, ""),
-    ] {
-        assert!(rt; read >= 1 && written >= 1);
-        let mut shelf = shelf(alloc, X1, reading, read)?;
-        let mut out = MemorySink::new(alloc, 999, call(alloc, writing)?, written)?;
-        let mut errors = MemorySink::new(alloc, 999, Calls::new(alloc), 999)?;
-        let answer = expert(alloc, &words, &mut shelf, &mut out, &mut errors);
-        assert_eq!(rt; answer, status, "{reading} {read} {writing} {written}");
-        assert_eq!(rt;
-            out.written(),
-            held.as_bytes(),
-            "{reading} {read} {writing} {written}"
-        );
-        let line = match status {
-            0 => "",
-            4 => "sqlite3_expert: cannot read db\n",
-            _ => "sqlite3_expert: cannot write\n",
-        };
-        assert_eq!(rt; errors.written(), line.as_bytes());
-    }
+    assert!(rt; tells(&faulty(alloc, NEVER, 1, NEVER, 999)?, 0, SCAN));
+    assert!(rt; tells(&faulty(alloc, NEVER, 65_536, NEVER, 1)?, 0, SCAN));
+    assert!(rt; tells(&faulty(alloc, 1, 7, NEVER, 999)?, 4, ""));
+    assert!(rt; tells(&faulty(alloc, 2, 7, NEVER, 999)?, 4, ""));
+    assert!(rt; tells(&faulty(alloc, 5, 7, NEVER, 999)?, 4, ""));
+    assert!(rt; tells(&faulty(alloc, 6, 7, NEVER, 999)?, 4, ""));
+    assert!(rt; tells(&faulty(alloc, 7, 7, NEVER, 999)?, 0, SCAN));
+    assert!(rt; tells(&faulty(alloc, NEVER, 7, 2, 10)?, 5, "-- Stateme"));
+    assert!(rt; tells(&faulty(alloc, NEVER, 7, 1, 999)?, 5, ""));
     Ok(())
+}
+
+/// A call with these words, whose first write to standard error fails.
+fn unheard(alloc: Global, words: &[&str]) -> Result<Ran, Memory> {
+    let words = words_of(alloc, words)?;
+    let mut shelf = shelf(alloc, X1, NEVER, 7)?;
+    let mut out = MemorySink::new(alloc, 999, Calls::new(alloc), 999)?;
+    let mut err = MemorySink::new(alloc, 999, call(alloc, 1)?, 999)?;
+    Ok(Ran {
+        status: expert(alloc, &words, &mut shelf, &mut out, &mut err),
+        out: Bytes::copy(alloc, out.written())?,
+        err: Bytes::copy(alloc, err.written())?,
+    })
+}
+
+/// Whether a call says nothing, and has this status.
+fn is_silent(ran: &Ran, status: u8) -> bool {
+    ran.status == status && ran.out.as_slice().is_empty() && ran.err.as_slice().is_empty()
 }
 
 #[test]
 fn a_fault_of_standard_error_changes_nothing(rt: HostRuntime) -> Result<(), Fail> {
     let alloc = rt.alloc();
-    for (words, status) in [
-        (words_of(alloc, &[])?, 1u8),
-        (words_of(alloc, &["-sql", "x"])?, 1),
-    ] {
-        let mut shelf = shelf(alloc, X1, NEVER, 7)?;
-        let mut out = MemorySink::new(alloc, 999, Calls::new(alloc), 999)?;
-        let mut errors = MemorySink::new(alloc, 999, call(alloc, 1)?, 999)?;
-        assert_eq!(rt;
-            expert(alloc, &words, &mut shelf, &mut out, &mut errors),
-            status
-        );
-        assert_eq!(rt; out.written(), b"".as_slice());
-        assert_eq!(rt; errors.written(), b"".as_slice());
-    }
+    assert!(rt; is_silent(&unheard(alloc, &[])?, 1));
+    assert!(rt; is_silent(&unheard(alloc, &["-sql", "x"])?, 1));
     Ok(())
 }
 
