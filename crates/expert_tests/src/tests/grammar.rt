@@ -1,6 +1,6 @@
 //! Statements that are read and that are refused, as this profile has them.
 use bumpalo::Bump;
-use sql_lex::{foreign_name, lex};
+use sql_lex::{Foreign, foreign_name, lex};
 use sql_parse::{ParseFault, parse};
 use sql_tree::{Cut, Stmt};
 use sql_value::{Bytes, Memory};
@@ -23,6 +23,7 @@ fn becomes(alloc: Global, text: &[u8]) -> &'static str {
     match parse(alloc, &arena, text, run) {
         Ok(_) => "read",
         Err(ParseFault::Lexical) => "bad token",
+        Err(ParseFault::Foreign(Foreign { entry: 0 | 38.. })) => "no part",
         Err(ParseFault::Foreign(found)) => foreign_name(found),
         Err(ParseFault::NumberOutOfProfile) => "number",
         Err(ParseFault::TooDeep) => "too deep",

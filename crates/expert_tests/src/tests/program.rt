@@ -9,16 +9,33 @@ use std::test::Fail;
 
 const X1: &str = "CREATE TABLE x1(a,b,c);";
 
-const SCAN: &str =
-    "-- Statement 1\n(no new indexes)\n\nSCAN x1\n\n-- Recommended\n(no new indexes)\n";
+const SCAN: &str = "-- Statement 1
+(no new indexes)
 
-const NOTHING: &str = "-- Recommended\n(no new indexes)\n";
+SCAN x1
 
-const TWO_STATEMENTS: &str =
-    "SELECT y.a AS k FROM \"x1\" 'y' WHERE k = 1; SELECT [y].a FROM x1 AS [y] WHERE y.a = 1";
+-- Recommended
+(no new indexes)
+";
 
-const TWO_BLOCKS: &str =
-    "-- Statement 1\nrefused: syntax error\n\n-- Statement 2\n(no new indexes)\n\nSCAN x1 AS y\n\n-- Recommended\n(no new indexes)\n";
+const NOTHING: &str = "-- Recommended
+(no new indexes)
+";
+
+const TWO_STATEMENTS: &str = "SELECT y.a AS k FROM \"x1\" 'y' WHERE k = 1;
+SELECT [y].a FROM x1 AS [y] WHERE y.a = 1";
+
+const TWO_BLOCKS: &str = "-- Statement 1
+refused: syntax error
+
+-- Statement 2
+(no new indexes)
+
+SCAN x1 AS y
+
+-- Recommended
+(no new indexes)
+";
 
 /// No call of the objects in memory has this number.
 const NEVER: u64 = 99;
@@ -162,8 +179,8 @@ fn refuses_by_name(rt: HostRuntime) -> Result<(), Fail> {
     Ok(())
 }
 
-/// A plan of a scan, where a call of the shelf fails and a read gives so many bytes at most, and the
-/// same for the writes of the report.
+/// A plan of a scan, where this call of the shelf fails and a read gives so many bytes at most, and
+/// the same for the writes of the report.
 fn faulty(alloc: Global, reading: u64, read: u64, writing: u64, written: u64) -> Result<Ran, Memory>
     requires reads { 1 ≤ read }
     requires writes { 1 ≤ written }

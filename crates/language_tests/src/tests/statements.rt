@@ -1,5 +1,5 @@
 //! Tables of cases: statements, what isn't read, and depth.
-use sql_lex::{foreign, foreign_name, lex, statements, too_deep};
+use sql_lex::{Foreign, foreign, foreign_name, lex, statements, too_deep};
 use sql_value::{Bytes, Memory};
 use std::alloc::Global;
 use std::test::Fail;
@@ -126,6 +126,7 @@ fn construct(alloc: Global, text: &[u8]) -> Result<&'static str, Memory> {
         return Ok("");
     }
     Ok(match foreign(text, tokens.as_slice()) {
+        Some(Foreign { entry: 0 | 38.. }) => "no construct",
         Some(found) => foreign_name(found),
         None => "none",
     })

@@ -37,7 +37,8 @@ fn item(alloc: Global) -> Result<Table, Memory>
 }
 
 fn is_free(alloc: Global, schema: &Schema, name: &[u8]) -> Result<bool, Memory>
-    ensures free { IfOk result (λ free. free ≡ true → is_taken schema.now (folded_bytes name.now) ≡ false) }
+    ensures free { IfOk result (λ free. free ≡ true
+        → is_taken schema.now (folded_bytes name.now) ≡ false) }
     ensures room { IfOk result (λ free. free ≡ true → size schema.now < 2 ^ 31) }
 {
     let folded = fold(alloc, name)?;
