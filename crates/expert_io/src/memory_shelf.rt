@@ -90,8 +90,14 @@ impl MemoryShelf {
     /// A shelf with no file open. `most` is the most bytes that one read gives.
     pub fn new(files: Files, failing: Calls, most: u64) -> MemoryShelf
         requires { 1 ≤ most }
-        ensures { result ≡ record { files = files; failing = failing; most = most; left = [];
-            calls = 0; faults = 0 } }
+        ensures { result ≡ record {
+          files = files;
+          failing = failing;
+          most = most;
+          left = [];
+          calls = 0;
+          faults = 0;
+        } }
     {
         MemoryShelf {
             files,

@@ -43,8 +43,14 @@ impl MemorySink {
     pub fn new(alloc: Global, room: u64, failing: Calls, most: u64) -> Result<MemorySink, Memory>
         requires { 1 ≤ most }
         ensures { IfOk result
-            (λ sink. sink ≡ record { written = []; room = room; failing = failing; most = most;
-                calls = 0; faults = 0 }) }
+            (λ sink. sink ≡ record {
+              written = [];
+              room = room;
+              failing = failing;
+              most = most;
+              calls = 0;
+              faults = 0;
+            }) }
     {
         match Vec::with_capacity(alloc, room as usize) {
             Ok(held) => Ok(MemorySink {
@@ -84,7 +90,7 @@ impl Sink for MemorySink {
             ⊎ ((length self.old.written ≡ self.old.room) × (0 < length piece.now))) }
         ensures takes { IfOk result
             (λ n. n ≡ min (min (length piece.now) (self.old.room - length self.old.written))
-                self.old.most) }
+            self.old.most) }
         ensures fault { OnErr result (self.new.faults ≡ raised self.old.faults) }
         ensures call { self.new.calls ≡ raised self.old.calls }
     {

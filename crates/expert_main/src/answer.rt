@@ -61,7 +61,7 @@ fn answer_over<'a>(alloc: Global, script: &[u8], database: &[u8]) -> Result<Answ
         ≡ run_schema script.now (schema_of database.now)) }
     ensures refused { IfErr result (λ refusal. status_of refusal ≢ 6
         → run_schema script.now (schema_of database.now)
-            ≡ refused (status_of refusal) (line_of refusal)) }
+        ≡ refused (status_of refusal) (line_of refusal)) }
     ensures known { IfErr result IsOfTexts }
     ensures report { IfOk result (λ answer. is_report answer.status ≡ true) }
     ensures means { IfOk result (λ answer. Means

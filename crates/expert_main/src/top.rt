@@ -97,7 +97,7 @@ fn attempt<'a, F: Shelf, O: Sink>(
     ensures read { IfOk result (λ status. (database : List ℕ)
         × ((run words.now ((database_of words.now, database) ∷ [])).status ≡ status)
         × Appends (O.written out.old) (O.written out.new)
-            (run words.now ((database_of words.now, database) ∷ [])).out
+        (run words.now ((database_of words.now, database) ∷ [])).out
         × ReportMeans words.now ((database_of words.now, database) ∷ [])
         (run words.now ((database_of words.now, database) ∷ [])).out) }
 
@@ -160,7 +160,7 @@ pub fn expert<F: Shelf, O: Sink, E: Sink>(
         → Stood (E.faults err.old) (E.faults err.new) → result ≢ 6 → IfSome (F.files shelf.old)
         (λ files.
         Gives (run words.now files) result (O.written out.old) (O.written out.new)
-            (E.written err.old) (E.written err.new)) }
+        (E.written err.old) (E.written err.new)) }
     ensures answered { is_report result ≡ true → IfSome (F.files shelf.old)
         (λ files. ((run words.now files).status ≡ result)
         × Appends (O.written out.old) (O.written out.new) (run words.now files).out) }
@@ -181,7 +181,7 @@ pub fn expert<F: Shelf, O: Sink, E: Sink>(
     ensures read { is_report result ≡ true → (database : List ℕ)
         × ((run words.now ((database_of words.now, database) ∷ [])).status ≡ result)
         × Appends (O.written out.old) (O.written out.new)
-            (run words.now ((database_of words.now, database) ∷ [])).out
+        (run words.now ((database_of words.now, database) ∷ [])).out
         × ReportMeans words.now ((database_of words.now, database) ∷ [])
         (run words.now ((database_of words.now, database) ∷ [])).out }
 
@@ -207,7 +207,7 @@ pub fn expert<F: Shelf, O: Sink, E: Sink>(
     ensures err_line { is_report result ≡ false → (line : List ℕ)
         × IsLineAfter result words.now line
         × WritesLine (E.written err.old) (E.written err.new) (E.faults err.old)
-            (E.faults err.new) line }
+        (E.faults err.new) line }
 {
     match attempt(alloc, words, shelf, out) {
         Ok(status) => status,

@@ -14,8 +14,10 @@ pub struct Command<'a> {
 /// The command that the words spell, or none.
 pub fn read_words(words: &Words) -> Option<Command<'_>>
     ensures { MatchOption result (command_of words.now ≡ None) (λ command.
-        command_of words.now ≡ Some (record { script = command.script.now;
-            database = command.database.now })) }
+        command_of words.now ≡ Some (record {
+          script = command.script.now;
+          database = command.database.now;
+        })) }
 {
     match words.as_slice() {
         [option, script, database] => {

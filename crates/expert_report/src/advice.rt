@@ -148,7 +148,7 @@ fn span_outcomes<'a>(
 ) -> Result<StatementOutcomes, Memory>
     ensures outcomes { IfOk result (λ outcomes. outcomes ≡ map
         (λ span. outcome_of schema.now (meant.statement_advice schema.now text.now
-            (run_of tokens.now span)))
+        (run_of tokens.now span)))
         spans.now) }
     ensures means { OnOk result (AllByRecursion
         (λ span. meant.AdviceMeans (plain_schema schema.now)

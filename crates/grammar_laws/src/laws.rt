@@ -23,5 +23,5 @@ pub fn spelled_runs_are_refused_for_depth_alone()
     ensures { (text : List ℕ) → (tokens : List Token) → (tree : StatementTree)
         → IsSpelled (lexemes_of text tokens) tree
         → first_refusal text tokens ≡ cond (nat_lt 200 (depth_of text tokens))
-            (Some fault.TooDeep) None }
+        (Some fault.TooDeep) None }
 {}

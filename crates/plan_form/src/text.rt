@@ -31,7 +31,7 @@ fn append_scan(text: &mut Bytes, schema: &Schema, item: &BItem) -> Result<(), Me
     requires { item.now.table < length schema.now.tables }
     ensures { OnOk result (text.new ≡ text.old
         ++ meant.scan_line (meant.with_alias
-            (meant.name_of (slice_get schema.now.tables item.now.table))
+        (meant.name_of (slice_get schema.now.tables item.now.table))
         (option_map (λ alias. alias.now) item.now.alias))) }
 {
     text.append(b"SCAN ")?;
@@ -46,7 +46,7 @@ fn append_loop(text: &mut Bytes, schema: &Schema, bound: &Bound, scan: &Loop) ->
     requires item { scan.now.item < length (bound_of bound.now).items }
     ensures { OnOk result (text.new ≡ text.old ++ meant.scan_line
         (meant.item_text schema.now (meant.aliases_of bound.now.items.now)
-            (bound_of bound.now) scan.now.item)) }
+        (bound_of bound.now) scan.now.item)) }
 {
     append_scan(text, schema, &bound.items[scan.item as usize])
 }
@@ -56,7 +56,7 @@ pub fn plan_text(alloc: Global, schema: &Schema, plan: &Plan) -> Result<Bytes, M
     requires { meant.ScansTables schema.now (plan_of plan.now) }
     ensures { IfOk result (λ text. text
         ≡ meant.plan_lines schema.now (meant.aliases_of plan.now.bound.now.items.now)
-            (plan_of plan.now)) }
+        (plan_of plan.now)) }
 {
     let mut text = Bytes::new(alloc);
     for scan in plan.loops {

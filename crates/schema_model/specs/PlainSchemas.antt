@@ -17,8 +17,11 @@ abbrev pub plain_table : Table → plain.Table
 plain_table t = record { columns = map plain_column t.columns; alias = t.alias }
 
 abbrev pub plain_index_column : IndexColumn → plain.IndexColumn
-plain_index_column c = record { column = c.column; collation = plain_collation c.coll;
-    falling = c.desc }
+plain_index_column c = record {
+  column = c.column;
+  collation = plain_collation c.coll;
+  falling = c.desc;
+}
 
 abbrev pub plain_index : Index → plain.Index
 plain_index i = record { table = i.table; columns = map plain_index_column i.columns }

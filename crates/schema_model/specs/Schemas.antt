@@ -28,7 +28,7 @@ index_names indexes = map (λ index. folded_bytes index.name) indexes
 abbrev pub is_taken : Schema → List ℕ → Bool
 is_taken s name =
     has_name name (table_names s.tables) ||
-        (has_name name (unread_names s.unread) || has_name name (index_names s.indexes))
+    (has_name name (unread_names s.unread) || has_name name (index_names s.indexes))
 
 -- the read table of the name by its position, else whether an unread one has it
 abbrev pub found_or : Bool → Option ℕ → Found
@@ -38,7 +38,7 @@ found_or unread None = if unread then Unread else Missing
 abbrev pub found_table : Schema → List ℕ → Found
 found_table s name =
     found_or (has_name name (unread_names s.unread))
-        (position (is_name name) (table_names s.tables))
+    (position (is_name name) (table_names s.tables))
 
 abbrev pub found_column : Table → List ℕ → Option ℕ
 found_column table name = position (has_column_name name) table.columns
@@ -51,16 +51,25 @@ abbrev pub empty : Schema
 empty = record { tables = []; unread = []; indexes = [] }
 
 abbrev pub with_table : Schema → Table → Schema
-with_table s table = record { tables = s.tables ++ table ∷ []; unread = s.unread;
-    indexes = s.indexes }
+with_table s table = record {
+  tables = s.tables ++ table ∷ [];
+  unread = s.unread;
+  indexes = s.indexes;
+}
 
 abbrev pub with_unread : Schema → List ℕ → Schema
-with_unread s name = record { tables = s.tables; unread = s.unread ++ name ∷ [];
-    indexes = s.indexes }
+with_unread s name = record {
+  tables = s.tables;
+  unread = s.unread ++ name ∷ [];
+  indexes = s.indexes;
+}
 
 abbrev pub with_index : Schema → Index → Schema
-with_index s index = record { tables = s.tables; unread = s.unread;
-    indexes = s.indexes ++ index ∷ [] }
+with_index s index = record {
+  tables = s.tables;
+  unread = s.unread;
+  indexes = s.indexes ++ index ∷ [];
+}
 
 abbrev pub IsWithinOption : Option ℕ → ℕ → Type 0
 IsWithinOption None count = Unit {0}

@@ -25,8 +25,11 @@ abbrev pub collation_of : List Column → KeyColumn → Collation
 collation_of columns c = collation_or c.coll (own_collation (slice_get columns c.column))
 
 abbrev pub index_columns : List Column → List KeyColumn → List IndexColumn
-index_columns columns key = map (λ c. record { column = c.column; coll = collation_of columns c;
-    desc = c.desc }) key
+index_columns columns key = map (λ c. record {
+  column = c.column;
+  coll = collation_of columns c;
+  desc = c.desc;
+}) key
 
 abbrev pub collation_number : Collation → ℕ
 collation_number Binary = 0
@@ -51,8 +54,13 @@ autoindex_name table number = codes "sqlite_autoindex_" ++ table ++ codes "_" ++
 abbrev pub with_autoindex : Schema → ℕ → List ℕ → List IndexColumn → Schema
 with_autoindex s table name columns =
     cond (is_taken s (folded_bytes name)) s
-    (with_index s (record { name = name; table = table; columns = columns; unique = true;
-        usable = true }))
+    (with_index s (record {
+      name = name;
+      table = table;
+      columns = columns;
+      unique = true;
+      usable = true;
+    }))
 
 abbrev pub is_on_rowid : Option ℕ → List KeyColumn → Bool
 is_on_rowid (Some number) (c ∷ []) = c.column == number
@@ -74,15 +82,18 @@ name_at s number = name_of (slice_get s.tables number)
 abbrev pub add_shape : ℕ → List ℕ → List IndexColumn → List ℕ → Autoindexes → Autoindexes
 add_shape number table columns shape a =
     cond (has_shape shape a.shapes) a
-    (record { schema = with_autoindex a.schema number (autoindex_name table (a.count + 1)) columns;
-        shapes = a.shapes ++ shape ∷ []; count = a.count + 1 })
+    (record {
+      schema = with_autoindex a.schema number (autoindex_name table (a.count + 1)) columns;
+      shapes = a.shapes ++ shape ∷ [];
+      count = a.count + 1;
+    })
 
 abbrev pub add_key_of : ℕ → List KeyColumn → Option Table → Autoindexes → Autoindexes
 add_key_of number key None a = a
 add_key_of number key (Some table) a =
     cond (is_on_rowid table.alias key) a
     (add_shape number table.name (index_columns table.columns key)
-        (shape_of (index_columns table.columns key)) a)
+    (shape_of (index_columns table.columns key)) a)
 
 -- none for a key on the rowid alone, and none where an earlier key has the same shape
 abbrev pub add_key : ℕ → Key → Autoindexes → Autoindexes

@@ -22,8 +22,11 @@ use Rattle.schema_read.specs.declared.state.State.{State}
 
 abbrev pub keep_table : State → TableText → State
 keep_table d made =
-    record d { schema = with_autoindexes (with_table d.schema made.table)
-        (length d.schema.tables) made.keys; rows = d.rows ++ [] ∷ [] }
+    record d {
+      schema = with_autoindexes (with_table d.schema made.table)
+          (length d.schema.tables) made.keys;
+      rows = d.rows ++ [] ∷ [];
+    }
 
 abbrev pub create_table : State → List ℕ → Option TableText → State
 create_table d name None = with_schema d (with_unread d.schema name)
@@ -36,17 +39,17 @@ create_named text d name named = create_table d name (table_of text named)
 abbrev pub apply_table : List ℕ → State → Named → State
 apply_table text d named =
     cond (is_refused d.schema (value_of text named.name)) (pass_statement d)
-        (create_named text d (value_of text named.name) named)
+    (create_named text d (value_of text named.name) named)
 
 abbrev pub apply_unread : List ℕ → State → Named → State
 apply_unread text d named =
     cond (is_refused d.schema (value_of text named.name)) (pass_statement d)
-        (with_schema d (with_unread d.schema (value_of text named.name)))
+    (with_schema d (with_unread d.schema (value_of text named.name)))
 
 abbrev pub listed_columns : List ℕ → List Column → List Token → Option (List IndexColumn)
 listed_columns text columns list =
     option_and_then (λ entries. option_map (λ found. index_columns columns found)
-        (key_columns text columns entries))
+    (key_columns text columns entries))
     (entries_of text false (parts_of text list))
 
 abbrev pub usable_columns : List ℕ → List Column → IndexHead → Option (List IndexColumn)
@@ -54,8 +57,13 @@ usable_columns text columns head = cond head.partial None (listed_columns text c
 
 -- an index that isn't usable has no columns
 abbrev pub index_made : List ℕ → ℕ → Bool → Option (List IndexColumn) → Index
-index_made name table unique None = record { name = name; table = table; columns = [];
-    unique = unique; usable = false }
+index_made name table unique None = record {
+  name = name;
+  table = table;
+  columns = [];
+  unique = unique;
+  usable = false;
+}
 index_made name table unique (Some columns) =
     record { name = name; table = table; columns = columns; unique = unique; usable = true }
 
@@ -63,12 +71,12 @@ abbrev pub keep_index_of : List ℕ → State → ℕ → IndexHead → Option T
 keep_index_of text d number head None = d
 keep_index_of text d number head (Some table) =
     with_schema d (with_index d.schema (index_made (value_of text head.name) number head.unique
-        (usable_columns text table.columns head)))
+    (usable_columns text table.columns head)))
 
 abbrev pub keep_index : List ℕ → State → ℕ → IndexHead → State
 keep_index text d number head =
     cond (is_refused d.schema (value_of text head.name)) (pass_statement d)
-        (keep_index_of text d number head (slice_get d.schema.tables number))
+    (keep_index_of text d number head (slice_get d.schema.tables number))
 
 abbrev pub index_found : List ℕ → State → IndexHead → Found → State
 index_found text d head (Read number) = keep_index text d number head

@@ -60,8 +60,13 @@ dump_of text = fold (step_span text (tokens_of text)) empty (statements_of text 
 -- rows are seen as plain values
 abbrev pub seen_dump : Dump → State
 seen_dump d =
-    record { schema = d.schema; rows = plain_database d.rows; given = d.given;
-        statements_passed = d.statements_passed; rows_passed = d.rows_passed }
+    record {
+      schema = d.schema;
+      rows = plain_database d.rows;
+      given = d.given;
+      statements_passed = d.statements_passed;
+      rows_passed = d.rows_passed;
+    }
 
 -- the tables that are named, read and unread
 abbrev pub table_total : Schema → ℕ

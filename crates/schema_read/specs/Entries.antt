@@ -33,7 +33,7 @@ number_entry text negative token = number_of_kind token.kind text negative token
 abbrev pub signed_entry : List ℕ → Token → Token → Option Value
 signed_entry text sign token =
     cond (is_mark text 45 sign) (number_entry text true token)
-        (cond (is_mark text 43 sign) (number_entry text false token) None)
+    (cond (is_mark text 43 sign) (number_entry text false token) None)
 
 -- NULL, a text, a blob, or a number with a sign or without
 abbrev pub entry_value : List ℕ → List Token → Option Value

@@ -32,14 +32,14 @@ nothing_behind table enclosed (t ∷ ts) = None
 abbrev pub values_of : List ℕ → Named → Option InsertHead
 values_of text table =
     option_and_then (λ a. option_and_then
-        (λ enclosed. nothing_behind table.name enclosed enclosed.rest) (first_enclosed text a))
+    (λ enclosed. nothing_behind table.name enclosed enclosed.rest) (first_enclosed text a))
     (after_word text (codes "values") table.rest)
 
 -- INSERT INTO, a name, VALUES, a list in parentheses, and nothing behind
 abbrev pub insert_head : List ℕ → List Token → Option InsertHead
 insert_head text ts =
     option_and_then (λ a. option_and_then
-        (λ b. option_and_then (λ table. values_of text table) (first_name b))
+    (λ b. option_and_then (λ table. values_of text table) (first_name b))
     (after_word text (codes "into") a)) (after_word text (codes "insert") ts)
 
 -- an empty list has no entries
@@ -68,8 +68,10 @@ with_rowid (Some number) values rowid = slice_set values number (Int rowid)
 abbrev pub keep_row : State → ℕ → Option ℕ → List Value → ℤ → State
 keep_row d number alias values rowid =
     cond (has_rowid rowid (slice_index_or d.rows number [])) (pass_row d)
-    (record d { rows = slice_set d.rows number
-        (inserted_row rowid (with_rowid alias values rowid) (slice_index_or d.rows number [])) })
+    (record d {
+      rows = slice_set d.rows number
+          (inserted_row rowid (with_rowid alias values rowid) (slice_index_or d.rows number []));
+    })
 
 abbrev pub keep_row_at : State → ℕ → Option ℕ → List Value → Option ℤ → State
 keep_row_at d number alias values None = pass_row d
@@ -79,7 +81,7 @@ keep_row_at d number alias values (Some rowid) = keep_row d number alias values 
 abbrev pub place_row : State → ℕ → Option ℕ → List Value → State
 place_row d number alias values =
     keep_row_at d number alias values (rowid_of alias values
-        (next_rowid (slice_index_or d.rows number [])))
+    (next_rowid (slice_index_or d.rows number [])))
 
 abbrev pub place_values : State → ℕ → Option ℕ → Option (List Value) → State
 place_values d number alias None = pass_row d
@@ -112,7 +114,7 @@ abbrev pub given_of_three : List ℕ → List Token → List Token → List Toke
 given_of_three text a b c =
     option_and_then (λ table. option_and_then (λ index. option_and_then (λ stat.
     Some (record { table = table; index = index; stat = stat })) (text_entry text c))
-        (optional_text_entry text b)) (text_entry text a)
+    (optional_text_entry text b)) (text_entry text a)
 
 -- a text, a text or NULL, and a text
 abbrev pub given_of : List ℕ → List (List Token) → Option Given

@@ -211,10 +211,16 @@ fn add_shape(
 ) -> Result<u64, Memory>
     requires { number < length schema.old.tables }
     ensures tables { OnOk result (schema.new.tables ≡ schema.old.tables) }
-    ensures same { IfOk result (λ more. record { schema = schema.new; shapes = shapes.new;
-        count = more } ≡ meant.add_shape number (meant.name_at schema.old number) columns
-        (meant.shape_of columns) (record { schema = schema.old; shapes = shapes.old;
-        count = count })) }
+    ensures same { IfOk result (λ more. record {
+      schema = schema.new;
+      shapes = shapes.new;
+      count = more;
+    } ≡ meant.add_shape number (meant.name_at schema.old number) columns
+        (meant.shape_of columns) (record {
+          schema = schema.old;
+          shapes = shapes.old;
+          count = count;
+        })) }
 {
     let shape = shape_of(alloc, columns.as_slice())?;
     if shapes.has(shape.as_slice()) {
@@ -242,8 +248,11 @@ fn add_key(
 ) -> Result<u64, Memory>
     requires { number < length schema.old.tables }
     ensures tables { OnOk result (schema.new.tables ≡ schema.old.tables) }
-    ensures same { IfOk result (λ more. record { schema = schema.new; shapes = shapes.new;
-        count = more } ≡ meant.add_key number key.now
+    ensures same { IfOk result (λ more. record {
+      schema = schema.new;
+      shapes = shapes.new;
+      count = more;
+    } ≡ meant.add_key number key.now
         (record { schema = schema.old; shapes = shapes.old; count = count })) }
 {
     let table = schema.table(number);

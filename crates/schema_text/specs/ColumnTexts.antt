@@ -86,7 +86,7 @@ abbrev pub last_collation : List ℕ → ℕ → List Token → Option Token
 last_collation text level [] = None
 last_collation text level (t ∷ ts) =
     or_else (last_collation text (next_level text level t) ts)
-        (at_top level (collation_here text (t ∷ ts)))
+    (at_top level (collation_here text (t ∷ ts)))
 
 abbrev pub collation_at : List ℕ → Token → Option Collation
 collation_at text t = collation_named (value_of text t)
@@ -112,8 +112,11 @@ declared_affinity declared = coded_affinity (affinity_of declared)
 abbrev pub column_after : List ℕ → Named → Option Column
 column_after text named =
     cond (is_generated text 0 (column_rest text named.rest)) None (
-    option_map (λ coll. record { name = value_of text named.name;
-        affinity = declared_affinity (declared_type text named.rest); coll = coll })
+    option_map (λ coll. record {
+      name = value_of text named.name;
+      affinity = declared_affinity (declared_type text named.rest);
+      coll = coll;
+    })
     (column_collation text (column_rest text named.rest)))
 
 abbrev pub column_of : List ℕ → List Token → Option Column

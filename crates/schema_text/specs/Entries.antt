@@ -32,8 +32,11 @@ entry_unless entry (t ∷ ts) = None
 
 abbrev pub entry_after : List ℕ → Bool → Named → Option EntryText
 entry_after text may named =
-    entry_unless (record { name = named.name; coll = collation_here text named.rest;
-        desc = begins_desc text (past_collation text named.rest) })
+    entry_unless (record {
+      name = named.name;
+      coll = collation_here text named.rest;
+      desc = begins_desc text (past_collation text named.rest);
+    })
     (past_autoincrement text may (past_direction text (past_collation text named.rest)))
 
 -- a name, COLLATE and a name or not, ASC or DESC or neither, and AUTOINCREMENT where it may stand
@@ -48,9 +51,9 @@ entry_collation text (Some t) = option_map (λ coll. Some coll) (collation_at te
 abbrev pub key_column : List ℕ → List Column → EntryText → Option KeyColumn
 key_column text columns entry =
     option_and_then (λ number. option_map
-        (λ coll. record { column = number; coll = coll; desc = entry.desc })
+    (λ coll. record { column = number; coll = coll; desc = entry.desc })
     (entry_collation text entry.coll)) (position
-        (has_column_name (folded_bytes (value_of text entry.name))) columns)
+    (has_column_name (folded_bytes (value_of text entry.name))) columns)
 
 abbrev pub is_last : List (List Token) → Bool
 is_last [] = true

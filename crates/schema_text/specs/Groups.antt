@@ -14,7 +14,7 @@ abbrev pub close_place : List ℕ → ℕ → List Token → Option ℕ
 close_place text level [] = None
 close_place text level (t ∷ ts) =
     cond (level == 0 && is_mark text 41 t) (Some 0)
-        (option_map (λ n. n + 1) (close_place text (next_level text level t) ts))
+    (option_map (λ n. n + 1) (close_place text (next_level text level t) ts))
 
 pub record Enclosed : Type 0 where
   pub inside : List Token
@@ -27,8 +27,10 @@ seen_enclosed e = record { inside = e.inside.now; rest = e.rest.now }
 abbrev pub first_enclosed : List ℕ → List Token → Option Enclosed
 first_enclosed text [] = None
 first_enclosed text (t ∷ ts) =
-    cond (is_mark text 40 t) (option_map (λ n. record { inside = take n ts;
-        rest = drop (n + 1) ts }) (close_place text 0 ts)) None
+    cond (is_mark text 40 t) (option_map (λ n. record {
+      inside = take n ts;
+      rest = drop (n + 1) ts;
+    }) (close_place text 0 ts)) None
 
 abbrev pub before_first : Token → List (List Token) → List (List Token)
 before_first t [] = (t ∷ []) ∷ []
@@ -42,7 +44,7 @@ abbrev pub parts_from : List ℕ → ℕ → List Token → List (List Token)
 parts_from text level [] = [] ∷ []
 parts_from text level (t ∷ ts) =
     cond (level == 0 && is_mark text 44 t) ([] ∷ parts_from text level ts)
-        (before_first t (parts_from text (next_level text level t) ts))
+    (before_first t (parts_from text (next_level text level t) ts))
 
 -- the parts of a list: none where it is empty
 abbrev pub parts_of : List ℕ → List Token → List (List Token)

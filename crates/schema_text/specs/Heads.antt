@@ -38,8 +38,13 @@ pub record IndexHead : Type 0 where
 
 abbrev pub seen_index_head : code.IndexHead → IndexHead
 seen_index_head head =
-    record { unique = head.unique; name = head.name; table = head.table; list = head.list.now;
-        partial = head.partial }
+    record {
+      unique = head.unique;
+      name = head.name;
+      table = head.table;
+      list = head.list.now;
+      partial = head.partial;
+    }
 
 -- WHERE, or nothing, behind the list
 abbrev pub is_partial : List ℕ → List Token → Option Bool
@@ -52,8 +57,13 @@ abbrev pub index_head : List ℕ → Bool → List Token → Option IndexHead
 index_head text unique ts =
     option_and_then (λ a. option_and_then (λ index. option_and_then (λ b. option_and_then (λ table.
     option_and_then (λ list. option_and_then (λ partial.
-    Some (record { unique = unique; name = index.name; table = table.name; list = list.inside;
-        partial = partial }))
+    Some (record {
+      unique = unique;
+      name = index.name;
+      table = table.name;
+      list = list.inside;
+      partial = partial;
+    }))
     (is_partial text list.rest)) (first_enclosed text table.rest)) (first_name b))
     (after_word text (codes "on") index.rest)) (qualified_name text (past_if_not_exists text a)))
     (after_word text (codes "index") ts)
@@ -65,4 +75,4 @@ unique_or text ts (Some rest) = index_head text true rest
 abbrev pub create_index_head : List ℕ → List Token → Option IndexHead
 create_index_head text ts =
     option_and_then (λ a. unique_or text a (after_word text (codes "unique") a))
-        (after_word text (codes "create") ts)
+    (after_word text (codes "create") ts)

@@ -31,8 +31,11 @@ key_mark text (t ∷ ts) =
 abbrev pub marked_key : ℕ → Option KeyMark → List Key
 marked_key number None = []
 marked_key number (Some mark) =
-    record { primary = mark.primary; own = true;
-        columns = record { column = number; coll = None; desc = mark.desc } ∷ [] } ∷ []
+    record {
+      primary = mark.primary;
+      own = true;
+      columns = record { column = number; coll = None; desc = mark.desc } ∷ [];
+    } ∷ []
 
 abbrev pub own_key : List ℕ → ℕ → ℕ → List Token → List Key
 own_key text number level ts = cond (level == 0) (marked_key number (key_mark text ts)) []
@@ -79,7 +82,7 @@ after_primary_key text ts = option_and_then (λ rest. after_word text (codes "ke
 abbrev pub list_behind : List ℕ → Bool → List Token → Option KeyList
 list_behind text primary ts =
     option_and_then (λ enclosed. Some (record { primary = primary; list = enclosed.inside }))
-        (first_enclosed text ts)
+    (first_enclosed text ts)
 
 abbrev pub key_list_after : List ℕ → List Token → Option (List Token) → Option KeyList
 key_list_after text ts (Some rest) = list_behind text true rest
@@ -95,13 +98,13 @@ abbrev pub keys_of_entries : List ℕ → List Column → Bool → Option (List 
 keys_of_entries text columns primary None = Some []
 keys_of_entries text columns primary (Some entries) =
     option_map (λ found. record { primary = primary; own = false; columns = found } ∷ [])
-        (key_columns text columns entries)
+    (key_columns text columns entries)
 
 abbrev pub keys_of_list : List ℕ → List Column → Option KeyList → Option (List Key)
 keys_of_list text columns None = Some []
 keys_of_list text columns (Some front) =
     keys_of_entries text columns front.primary
-        (entries_of text front.primary (parts_of text front.list))
+    (entries_of text front.primary (parts_of text front.list))
 
 -- the key of a table's constraint, if it counts; nothing where a column or a collation isn't known
 abbrev pub table_keys : List ℕ → List Column → List Token → Option (List Key)
@@ -115,7 +118,7 @@ behind_name (t ∷ ts) = ts
 abbrev pub item_keys : List ℕ → List Column → ℕ → List Token → Option (List Key)
 item_keys text columns number item =
     cond (is_constraint text item) (table_keys text columns item)
-        (Some (own_keys text number 0 (column_rest text (behind_name item))))
+    (Some (own_keys text number 0 (column_rest text (behind_name item))))
 
 abbrev pub next_number : List ℕ → ℕ → List Token → ℕ
 next_number text number item = cond (is_constraint text item) number (number + 1)
@@ -125,5 +128,5 @@ abbrev pub keys_of : List ℕ → List Column → ℕ → List (List Token) → 
 keys_of text columns number [] = Some []
 keys_of text columns number (item ∷ items) =
     option_and_then (λ added. option_map (λ rest. added ++ rest)
-        (keys_of text columns (next_number text number item) items))
+    (keys_of text columns (next_number text number item) items))
     (item_keys text columns number item)

@@ -21,13 +21,13 @@ use Rattle.schema_text.specs.declared.table_texts.TableText.{TableText}
 abbrev pub with_column : List Column → Column → Option (List Column)
 with_column columns column =
     cond (nat_le 2000 (length columns) || is_some
-        (position (has_column_name (folded_bytes column.name)) columns)) None
+    (position (has_column_name (folded_bytes column.name)) columns)) None
     (Some (columns ++ column ∷ []))
 
 abbrev pub with_item : List ℕ → List Column → List Token → Option (List Column)
 with_item text columns item =
     cond (is_constraint text item) (Some columns)
-        (option_and_then (λ column. with_column columns column) (column_of text item))
+    (option_and_then (λ column. with_column columns column) (column_of text item))
 
 abbrev pub columns_from : List ℕ → List Column → List (List Token) → Option (List Column)
 columns_from text columns [] = Some columns
@@ -91,8 +91,14 @@ with_alias columns (Some number) = as_rowid columns number
 
 abbrev pub made_table : List ℕ → Token → List Column → List Key → Option ℕ → TableText
 made_table text name columns keys alias =
-    record { table = record { name = value_of text name; columns = with_alias columns alias;
-        alias = alias }; keys = keys }
+    record {
+      table = record {
+        name = value_of text name;
+        columns = with_alias columns alias;
+        alias = alias;
+      };
+      keys = keys;
+    }
 
 abbrev pub table_of_items : List ℕ → Token → Bool → List (List Token) → Option TableText
 table_of_items text name strict items =
@@ -105,5 +111,5 @@ table_of_items text name strict items =
 abbrev pub table_of : List ℕ → Named → Option TableText
 table_of text named =
     option_and_then (λ enclosed. option_and_then
-        (λ strict. table_of_items text named.name strict (parts_of text enclosed.inside))
+    (λ strict. table_of_items text named.name strict (parts_of text enclosed.inside))
     (table_options text enclosed.rest)) (first_enclosed text named.rest)

@@ -44,7 +44,7 @@ count_check sources = if nat_lt 64 (length sources) then Some fault.TooManyTable
 abbrev pub from_checks : Schema → List SourceTree → List (Option BindFault)
 from_checks schema sources =
     count_check sources ∷ (flat_map (table_checks schema) sources
-        ++ name_checks [] (map known_as sources))
+    ++ name_checks [] (map known_as sources))
 
 -- the number of a table, and 0 where it isn't read
 abbrev pub table_number : Found → ℕ

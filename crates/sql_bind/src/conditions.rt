@@ -19,7 +19,7 @@ use std::alloc::Global;
 fn push<'a>(terms: &mut Vec<Conjunct<'a>>, expr: &'a BExpr<'a>) -> Result<(), Memory>
     ensures { OnOk result
         (map conjunct_of terms.new.items ≡ map conjunct_of terms.old.items
-            ++ unowned (expr_of expr.now) ∷ []) }
+        ++ unowned (expr_of expr.now) ∷ []) }
 {
     match terms.push(Conjunct { expr, owner: None }) {
         Ok(()) => Ok(()),
@@ -112,7 +112,7 @@ fn check_set<'a>(
     requires { 0 < length scope.now.items }
     ensures { Answers (λ _. tt {0}) result
         (set_checks scope.now (record { column = column.now; value = tree_of value.now }))
-            (tt {0}) }
+        (tt {0}) }
 {
     check_target(alloc, scope, column)?;
     bind_expr(alloc, arena, scope, value)?;

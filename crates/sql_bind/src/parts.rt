@@ -71,7 +71,7 @@ pub(crate) fn place_bound<'a>(
         ≡ bound_from (map named_of list.now) (statement_tree stmt.now) parts.now) }
     ensures needs { IfOk result (λ b. needs_of b
         ≡ needs_in scope.now (bound_from (map named_of list.now)
-            (statement_tree stmt.now) parts.now)) }
+        (statement_tree stmt.now) parts.now)) }
     ensures aliases { IfOk result (λ b. aliases_of b ≡ map (λ n. n.alias) (map named_of list.now)) }
 {
     let rowids = changes_rows(stmt);

@@ -34,8 +34,10 @@ fn push<'a>(
 ) -> Result<(), Memory>
     ensures { OnOk result (results_seen results.new.items
         ≡ results_seen results.old.items
-        ++ record { expr = expr_of expr.entry;
-            alias = option_map (λ bytes. bytes.now) alias.entry } ∷ []) }
+        ++ record {
+          expr = expr_of expr.entry;
+          alias = option_map (λ bytes. bytes.now) alias.entry;
+        } ∷ []) }
 {
     if results.len() >= MOST_RESULTS {
         return Err(Memory);
@@ -57,7 +59,7 @@ fn push_columns<'a>(
     requires { item < length scope.now.items }
     ensures { OnOk result
         (results_seen results.new.items ≡ results_seen results.old.items
-            ++ item_columns scope.now item) }
+        ++ item_columns scope.now item) }
 {
     let table = scope.table(item);
     let width = table.columns.as_slice().len() as u32;
@@ -75,7 +77,7 @@ fn push_all_columns<'a>(
 ) -> Result<(), Memory>
     ensures { OnOk result
         (results_seen results.new.items ≡ results_seen results.old.items
-            ++ every_column scope.now) }
+        ++ every_column scope.now) }
 {
     for item in 0..scope.count() {
         push_columns(arena, scope, results, item)?;
@@ -125,8 +127,10 @@ fn push_value<'a>(
     ensures { Answers (λ _. results_seen results.new.items) result
         (expr_checks scope.now (tree_of tree.now))
         (results_seen results.old.items
-        ++ record { expr = bound scope.now (tree_of tree.now);
-            alias = option_map (λ bytes. bytes.now) alias.entry } ∷ []) }
+        ++ record {
+          expr = bound scope.now (tree_of tree.now);
+          alias = option_map (λ bytes. bytes.now) alias.entry;
+        } ∷ []) }
 {
     let expr = bind_expr(alloc, arena, scope, tree)?;
     push(arena, results, expr, alias)?;

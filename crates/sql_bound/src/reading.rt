@@ -48,7 +48,7 @@ impl<'e> Seen<'e> {
     pub(crate) fn converted(self, alloc: Global, conv: Option<Affinity>) -> Result<Self, Memory>
         ensures { IfOk result (λ made.
             seen_value made ≡ converted_by (option_map plain_affinity conv)
-                (seen_value self.entry)) }
+            (seen_value self.entry)) }
     {
         let Some(aff) = conv else {
             return Ok(self);

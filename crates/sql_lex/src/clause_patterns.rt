@@ -78,8 +78,7 @@ fn fits_qualified_table(place: Place) -> bool
 }
 
 /// The number of the first of these patterns that fits at a place, from 0, or 7.
-#[tactic(auto, unfolding(crate::specs::Places::entry_at,
-    crate::specs::ClausePatterns::clause_tests))]
+#[tactic(auto, unfolding(crate::specs::Places::entry_at, crate::specs::ClausePatterns::clause_tests))]
 pub(crate) fn clause_entry(place: Place) -> usize
     ensures { result ≡ entry_at clause_tests place }
 {

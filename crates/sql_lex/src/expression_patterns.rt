@@ -112,8 +112,7 @@ fn fits_current_time(place: Place) -> bool
 }
 
 /// The number of the first of these patterns that fits at a place, from 0, or 10.
-#[tactic(auto, unfolding(crate::specs::Places::entry_at,
-    crate::specs::ExpressionPatterns::expression_tests))]
+#[tactic(auto, unfolding(crate::specs::Places::entry_at, crate::specs::ExpressionPatterns::expression_tests))]
 pub(crate) fn expression_entry(place: Place) -> usize
     ensures { result ≡ entry_at expression_tests place }
 {

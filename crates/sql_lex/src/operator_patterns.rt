@@ -100,8 +100,7 @@ fn fits_arithmetic(place: Place) -> bool
 }
 
 /// The number of the first of these patterns that fits at a place, from 0, or 8.
-#[tactic(auto, unfolding(crate::specs::Places::entry_at,
-    crate::specs::OperatorPatterns::operator_tests))]
+#[tactic(auto, unfolding(crate::specs::Places::entry_at, crate::specs::OperatorPatterns::operator_tests))]
 pub(crate) fn operator_entry(place: Place) -> usize
     ensures { result ≡ entry_at operator_tests place }
 {

@@ -61,8 +61,7 @@ fn fits_other_statement(place: Place) -> bool
 }
 
 /// The number of the first of these patterns that fits at a place, from 0, or 4.
-#[tactic(auto, unfolding(crate::specs::Places::entry_at,
-    crate::specs::StatementPatterns::statement_tests))]
+#[tactic(auto, unfolding(crate::specs::Places::entry_at, crate::specs::StatementPatterns::statement_tests))]
 pub(crate) fn statement_entry(place: Place) -> usize
     ensures { result ≡ entry_at statement_tests place }
 {

@@ -77,12 +77,12 @@ mutual
         Spells test ts (tree.Between neg x y z)
     in_none : {ts fs : List Lexeme} {x : Tree} (neg : Bool) → Spells operand fs x →
         ts ≡ fs ++ (perhaps_not neg mark.In
-            ++ lexeme.Fixed mark.Open ∷ lexeme.Fixed mark.Close ∷ []) →
+        ++ lexeme.Fixed mark.Open ∷ lexeme.Fixed mark.Close ∷ []) →
         Spells test ts (tree.OneOf neg x tree.end)
     in_some : {ts fs bs : List Lexeme} {x : Tree} {xs : List Tree} (neg : Bool) →
         Spells operand fs x → Members expr mark.Comma bs xs →
         ts ≡ fs ++ (perhaps_not neg mark.In
-            ++ lexeme.Fixed mark.Open ∷ (bs ++ lexeme.Fixed mark.Close ∷ [])) →
+        ++ lexeme.Fixed mark.Open ∷ (bs ++ lexeme.Fixed mark.Close ∷ [])) →
         Spells test ts (tree.OneOf neg x (trees xs))
     plus : {ts : List Lexeme} {x : Tree} → Spells operand ts x →
         Spells operand (lexeme.Fixed mark.Plus ∷ ts) (tree.Plus x)
@@ -90,7 +90,7 @@ mutual
     collated : {ts fs : List Lexeme} {x : Tree} (c : List ℕ) (d : Option Direction) →
         Spells primary fs x →
         ts ≡ fs ++ lexeme.Fixed mark.Collate ∷ lexeme.Name c d ∷ [] →
-            Spells operand ts (tree.Collate x c)
+        Spells operand ts (tree.Collate x c)
     null : Spells primary (lexeme.Fixed mark.Null ∷ []) (tree.Lit value.Null)
     number : {t : Lexeme} {v : Value} → IsNumber false t v → Spells primary (t ∷ []) (tree.Lit v)
     negative : {t : Lexeme} {v : Value} → IsNumber true t v →
@@ -102,7 +102,7 @@ mutual
         Spells primary (lexeme.Name c d ∷ []) (tree.Name None c)
     qualified : (t c : List ℕ) (d e : Option Direction) →
         Spells primary (lexeme.Name t d ∷ lexeme.Fixed mark.Dot ∷ lexeme.Name c e ∷ [])
-            (tree.Name (Some t) c)
+        (tree.Name (Some t) c)
     enclosed : {ts es : List Lexeme} {x : Tree} → Spells expr es x →
         ts ≡ lexeme.Fixed mark.Open ∷ (es ++ lexeme.Fixed mark.Close ∷ []) → Spells primary ts x
 

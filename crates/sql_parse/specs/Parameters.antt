@@ -47,8 +47,10 @@ raised met (Some n) = record { greatest = max met.greatest n; named = met.named 
 
 abbrev pub with_name : Met → List ℕ → Option ℕ → Met
 with_name met name (Some n) = met
-with_name met name None = record { greatest = met.greatest + 1;
-    named = met.named ++ (name, met.greatest + 1) ∷ [] }
+with_name met name None = record {
+  greatest = met.greatest + 1;
+  named = met.named ++ (name, met.greatest + 1) ∷ [];
+}
 
 abbrev pub met_by_form : Met → Form → Met
 met_by_form met next = record { greatest = met.greatest + 1; named = met.named }

@@ -46,7 +46,7 @@ pub data Result : List Lexeme → ItemTree → Type 0 where
   star : Result (lexeme.Fixed mark.Star ∷ []) statement.Star
   table_star : (t : List ℕ) (d : Option Direction) →
       Result (lexeme.Name t d ∷ lexeme.Fixed mark.Dot ∷ lexeme.Fixed mark.Star ∷ [])
-          (statement.TableStar t)
+      (statement.TableStar t)
   value : {ts fs bs : List Lexeme} {x : Tree} {a : Option (List ℕ)} → Spells level.expr fs x →
       Alias true bs a →
       ts ≡ fs ++ bs → Result ts (statement.Value x a)
@@ -65,7 +65,7 @@ pub data Joined : Bool → List Lexeme → SourceTree → Type 0 where
   joined : {cross : Bool} {ts fs bs : List Lexeme} {s : SourceTree} {on : Option Tree} →
       Table cross fs s →
       Condition mark.On bs on → ts ≡ lexeme.Fixed mark.Join ∷ (fs ++ bs) →
-          Joined cross ts (on_condition s on)
+      Joined cross ts (on_condition s on)
 
 pub data Join : List Lexeme → SourceTree → Type 0 where
   comma : {ts : List Lexeme} {s : SourceTree} → Table false ts s →
@@ -116,10 +116,10 @@ pub data Limits : List Lexeme → Cuts → Type 0 where
       Limits (lexeme.Fixed mark.Limit ∷ ts) (Some x, None)
   limit_offset : {ts fs bs : List Lexeme} {x y : Cut} → Count fs x → Count bs y →
       ts ≡ lexeme.Fixed mark.Limit ∷ (fs ++ lexeme.Fixed mark.Offset ∷ bs) →
-          Limits ts (Some x, Some y)
+      Limits ts (Some x, Some y)
   offset_limit : {ts fs bs : List Lexeme} {x y : Cut} → Count fs x → Count bs y →
       ts ≡ lexeme.Fixed mark.Limit ∷ (fs ++ lexeme.Fixed mark.Comma ∷ bs) →
-          Limits ts (Some y, Some x)
+      Limits ts (Some y, Some x)
 
 pub data Setting : List Lexeme → SetTree → Type 0 where
   set : {ts : List Lexeme} {x : Tree} (c : List ℕ) (d : Option Direction) → Spells level.expr ts x →
@@ -137,7 +137,7 @@ pub data IsSpelled : List Lexeme → StatementTree → Type 0 where
       PerhapsAll qs → Listed Result is items → Sources ss sources → Condition mark.Where fs filter →
       SortKeys ks keys → Limits cs cuts →
       ts ≡ lexeme.Fixed mark.Select ∷ (qs
-          ++ (is ++ lexeme.Fixed mark.From ∷ (ss ++ (fs ++ (ks ++ cs))))) →
+      ++ (is ++ lexeme.Fixed mark.From ∷ (ss ++ (fs ++ (ks ++ cs))))) →
       IsSpelled ts (statement.Select (select_of items sources filter keys cuts))
   update : {ts ss us fs : List Lexeme} {source : SourceTree} {sets : List SetTree}
       {filter : Option Tree} →

@@ -83,7 +83,7 @@ mark_or (Some m) unmarked = lexeme.Fixed m
 abbrev pub keyword_lexeme : Keyword → List ℕ → Lexeme
 keyword_lexeme k bytes =
     mark_or (keyword_mark k) (cond (is_reserved_word k) lexeme.Other
-        (lexeme.Name bytes (keyword_direction k)))
+    (lexeme.Name bytes (keyword_direction k)))
 
 abbrev pub symbol_lexeme : Symbol → Lexeme
 symbol_lexeme s = mark_or (symbol_mark s) lexeme.Other

@@ -109,8 +109,7 @@ impl Parameters {
 
     /// The number of a parameter, which is met from here on. `None` where `?` stands before what is
     /// no number of a parameter.
-    #[tactic(auto, unfolding(crate::specs::Parameters::form_of,
-        crate::specs::Parameters::parameter_number, crate::specs::Parameters::met_behind))]
+    #[tactic(auto, unfolding(crate::specs::Parameters::form_of, crate::specs::Parameters::parameter_number, crate::specs::Parameters::met_behind))]
     pub(crate) fn take(&mut self, alloc: Global, bytes: &[u8]) -> Result<Option<u32>, Memory>
         ensures { IfOk result (λ n. (n ≡ parameter_number self.old bytes.now)
             × (self.new ≡ met_behind self.old bytes.now)) }

@@ -136,8 +136,7 @@ fn place_value<'a>(
 }
 
 /// A token as a lexeme. A parameter is met from here on.
-#[tactic(auto, unfolding(crate::specs::TokenLexemes::lexeme_at,
-    crate::specs::TokenLexemes::met_after))]
+#[tactic(auto, unfolding(crate::specs::TokenLexemes::lexeme_at, crate::specs::TokenLexemes::met_after))]
 fn lexeme_read<'a>(
     alloc: Global,
     arena: &'a Bump,

@@ -109,7 +109,7 @@ between_at b negated x ts =
 unfoldable pub entries_at : Below → Reader (List Tree)
 entries_at b ts =
     branch (after mark.Close ts) (enclosed_at (list_at b.expr (after mark.Comma) b.expr) ts)
-        (λ r. Some ([], r))
+    (λ r. Some ([], r))
 
 unfoldable pub one_of_at : Below → Bool → Tree → Reader Tree
 one_of_at b negated left ts =
@@ -153,5 +153,8 @@ joint_mark joint.Or = mark.Or
 -- the readers of a depth
 unfoldable pub below : ℕ → Below
 below zero = record { expr = λ ts. None; not = λ ts. None; operand = λ ts. None }
-below (suc n) = record { expr = expr_at (below n); not = not_at (below n);
-    operand = operand_at (below n) }
+below (suc n) = record {
+  expr = expr_at (below n);
+  not = not_at (below n);
+  operand = operand_at (below n);
+}

@@ -49,4 +49,4 @@ leaf_at (lexeme.Other ∷ rest) = None
 unfoldable pub collated_at : Tree → Reader Tree
 collated_at x ts =
     branch (after mark.Collate ts) (Some (x, ts))
-        (λ r. name_at r >>= λ c. Some (tree.Collate x c.0, c.1))
+    (λ r. name_at r >>= λ c. Some (tree.Collate x c.0, c.1))

@@ -14,7 +14,7 @@ abbrev pub Reads : {T A : Type 0} → (T → A) → (Left → Result (T × Left)
     → Reader A → Type 0
 Reads tree post reader =
     (left : Left) (r : _) → post left r → Gives (λ x. (tree x.0, seen x.1.now)) r
-        (reader (seen left.now))
+    (reader (seen left.now))
 
 -- each result is the lexemes that start finds, or nothing where it finds none
 abbrev pub Finds : (Left → Option Left → Type 0) → (List Lexeme → Option (List Lexeme)) → Type 0

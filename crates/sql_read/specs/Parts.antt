@@ -40,7 +40,7 @@ alias_at texts ts =
 unfoldable pub table_star_at : Reader (List ℕ)
 table_star_at ts =
     name_at ts >>= λ table. branch (after mark.Dot table.1) None
-        (λ r. branch (after mark.Star r) None (λ q.
+    (λ r. branch (after mark.Star r) None (λ q.
     Some (table.0, q)))
 
 unfoldable pub value_item_at : Reader Tree → Reader ItemTree
@@ -50,7 +50,7 @@ unfoldable pub item_at : Reader Tree → Reader ItemTree
 item_at e ts =
     branch (after mark.Star ts)
     (branch (table_star_at ts) (value_item_at e ts)
-        (λ table. Some (item.TableStar table.0, table.1)))
+    (λ table. Some (item.TableStar table.0, table.1)))
     (λ r. Some (item.Star, r))
 
 abbrev pub source_named : List ℕ → Option (List ℕ) → Bool → Option Tree → SourceTree
@@ -65,7 +65,7 @@ source_at cross ts =
 unfoldable pub joined_source_at : Reader Tree → Bool → Reader SourceTree
 joined_source_at e cross ts =
     branch (after mark.Join ts) None (λ r. source_at cross r >>= λ s.
-        optional_at mark.On e s.1 >>= λ on.
+    optional_at mark.On e s.1 >>= λ on.
     Some (source_named s.0.table s.0.alias s.0.cross on.0, on.1))
 
 -- a further source: behind a comma, CROSS JOIN, INNER JOIN or JOIN
@@ -158,7 +158,7 @@ second_cut_at first ts =
 unfoldable pub cuts_at : Reader Cuts
 cuts_at ts =
     branch (after mark.Limit ts) (Some ((None, None), ts))
-        (λ r. cut_at r >>= λ first. second_cut_at first.0 first.1)
+    (λ r. cut_at r >>= λ first. second_cut_at first.0 first.1)
 
 abbrev pub set_to : List ℕ → Tree → SetTree
 set_to column x = record { column = column; value = x }
@@ -167,4 +167,4 @@ set_to column x = record { column = column; value = x }
 unfoldable pub set_at : Reader Tree → Reader SetTree
 set_at e ts =
     name_at ts >>= λ column. branch (after mark.Eq column.1) None
-        (λ r. e r >>= λ x. Some (set_to column.0 x.0, x.1))
+    (λ r. e r >>= λ x. Some (set_to column.0 x.0, x.1))

@@ -69,7 +69,7 @@ unfoldable pub more_at : {A : Type 0} → (List Lexeme → Option (List Lexeme))
 more_at start p zero ts = Some ([], ts)
 more_at start p (suc n) ts =
     branch (start ts) (Some ([], ts)) (λ r. p r >>= λ x.
-        with_front (x.0 ∷ []) (more_at start p n x.1))
+    with_front (x.0 ∷ []) (more_at start p n x.1))
 
 -- a first member, and then as many more as there are
 unfoldable pub list_at : {A : Type 0} → Reader A → (List Lexeme → Option (List Lexeme)) → Reader A

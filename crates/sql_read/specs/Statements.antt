@@ -21,14 +21,20 @@ sets_at e = list_at (set_at e) (after mark.Comma) (set_at e)
 abbrev pub select_of : List ItemTree → List SourceTree → Option Tree → List KeyTree → Cuts
     → SelectTree
 select_of items sources filter keys cuts =
-    record { items = items; sources = sources; filter = filter; keys = keys; limit = cuts.0;
-        offset = cuts.1 }
+    record {
+      items = items;
+      sources = sources;
+      filter = filter;
+      keys = keys;
+      limit = cuts.0;
+      offset = cuts.1;
+    }
 
 -- what follows FROM
 unfoldable pub from_at : Reader Tree → List ItemTree → Reader SelectTree
 from_at e items ts =
     sources_at e ts >>= λ sources. optional_at mark.Where e sources.1 >>= λ filter.
-        keys_at e filter.1 >>= λ keys.
+    keys_at e filter.1 >>= λ keys.
     cuts_at keys.1 >>= λ cuts. Some (select_of items sources.0 filter.0 keys.0 cuts.0, cuts.1)
 
 -- the lexemes behind ALL, or all of them
@@ -39,7 +45,7 @@ past_all ts = branch (after mark.All ts) ts (λ r. r)
 unfoldable pub select_at : Reader Tree → Reader SelectTree
 select_at e ts =
     items_at e (past_all ts) >>= λ items.
-        branch (after mark.From items.1) None (λ r. from_at e items.0 r)
+    branch (after mark.From items.1) None (λ r. from_at e items.0 r)
 
 abbrev pub update_of : SourceTree → List SetTree → Option Tree → UpdateTree
 update_of source sets filter = record { source = source; sets = sets; filter = filter }
@@ -48,9 +54,9 @@ update_of source sets filter = record { source = source; sets = sets; filter = f
 unfoldable pub update_at : Reader Tree → Reader UpdateTree
 update_at e ts =
     source_at false ts >>= λ source. branch (after mark.Set source.1) None
-        (λ r. sets_at e r >>= λ sets.
+    (λ r. sets_at e r >>= λ sets.
     optional_at mark.Where e sets.1 >>= λ filter.
-        Some (update_of source.0 sets.0 filter.0, filter.1))
+    Some (update_of source.0 sets.0 filter.0, filter.1))
 
 abbrev pub delete_of : SourceTree → Option Tree → DeleteTree
 delete_of source filter = record { source = source; filter = filter }
@@ -66,7 +72,7 @@ statement_at e ts =
     branch (after mark.Select ts)
     (branch (after mark.Update ts)
     (branch (after mark.Delete ts) None (λ r. delete_at e r >>= λ d.
-        Some (statement.Delete d.0, d.1)))
+    Some (statement.Delete d.0, d.1)))
     (λ r. update_at e r >>= λ u. Some (statement.Update u.0, u.1)))
     (λ r. select_at e r >>= λ s. Some (statement.Select s.0, s.1))
 

@@ -158,8 +158,7 @@ fn between<'a>(
 
 /// The entries of IN, up to the closing parenthesis.
 #[cycle(descent)]
-#[tactic(auto, unfolding(crate::specs::Expressions::entries_at,
-    crate::specs::Expressions::enclosed_at, crate::specs::Expressions::member_at))]
+#[tactic(auto, unfolding(crate::specs::Expressions::entries_at, crate::specs::Expressions::enclosed_at, crate::specs::Expressions::member_at))]
 fn entries<'a>(alloc: Global, arena: &'a Bump, depth: usize, lexemes: Left<'a>) -> ReadList<'a>
     ensures { Gives (λ x. (map tree_of x.0.items, seen x.1.now)) result
         (entries_at (below depth) (seen lexemes.now)) }

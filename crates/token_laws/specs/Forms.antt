@@ -56,7 +56,7 @@ exponent = byte_then (λ b. b == 101 || b == 69)
 abbrev pub decimal : Form
 decimal =
     either (some_then is_ascii_digit (either (maybe exponent)
-        (byte_then (is 46) (run_then is_ascii_digit (maybe exponent)))))
+    (byte_then (is 46) (run_then is_ascii_digit (maybe exponent)))))
     (byte_then (is 46) (some_then is_ascii_digit (maybe exponent)))
 
 abbrev pub hexadecimal : Form
