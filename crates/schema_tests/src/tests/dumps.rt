@@ -362,15 +362,18 @@ I sqlite_autoindex_log_1 1(1N,0B) unique
 I log_at 1(1N-)
 P 4 2";
 
-/// What is read of a dump; nothing where it is refused.
+/// What is read of a dump; nothing where it is refused, or its rows aren't a database.
 fn shown(alloc: Global, text: &[u8]) -> Result<Bytes, Memory> {
     if text.len() > 10_000 {
         return Ok(Bytes::new(alloc));
     }
-    match read_dump(alloc, text) {
-        Ok(dump) if conforms(&dump.schema, &dump.rows) => summary_of(alloc, &dump),
-        _ => Ok(Bytes::new(alloc)),
+    let Ok(dump) = read_dump(alloc, text) else {
+        return Ok(Bytes::new(alloc));
+    };
+    if !conforms(&dump.schema, &dump.rows) {
+        return Ok(Bytes::new(alloc));
     }
+    summary_of(alloc, &dump)
 }
 
 #[test]
