@@ -51,8 +51,14 @@ fn refusal(alloc: Global, schema: &Schema, text: &[u8]) -> Result<Bytes, Memory>
     }
 }
 
-/// What a statement that can be read is bound to, or the text of its refusal.
-fn becomes(alloc: Global, schema: &Schema, text: &[u8]) -> Result<Bytes, Memory> {
+/// What a statement over the tables above is bound to, or the text of its refusal.
+fn becomes(alloc: Global, text: &[u8]) -> Result<Bytes, Fail> {
+    let dump = read_dump(alloc, TABLES.as_bytes())?;
+    Ok(bound_by(alloc, &dump.schema, text)?)
+}
+
+/// The same by a schema; nothing for a statement that can't be read.
+fn bound_by(alloc: Global, schema: &Schema, text: &[u8]) -> Result<Bytes, Memory> {
     let mut shown = Bytes::new(alloc);
     if text.len() > 100_000 {
         return Ok(shown);
@@ -204,11 +210,9 @@ DELETE FROM x1 WHERE y1.a = 1 => no such column: y1.a
 
 #[test]
 fn binds_and_refuses(rt: HostRuntime) -> Result<(), Fail> {
-    let alloc = rt.alloc();
-    let dump = read_dump(alloc, TABLES.as_bytes())?;
     for line in STATEMENTS.lines() {
         if let Some((statement, want)) = line.split_once(" => ") {
-            let shown = becomes(alloc, &dump.schema, statement.as_bytes())?;
+            let shown = becomes(rt.alloc(), statement.as_bytes())?;
             assert_eq!(rt; shown.as_slice(), want.as_bytes(), "{statement}");
         }
     }
@@ -229,7 +233,7 @@ r => -N -N -N -- -- --
 ";
 
 /// The two letters behind the first space: what is applied to the sides of the first comparison.
-fn applied(shown: &[u8]) -> &[u8] {
+fn letters(shown: &[u8]) -> &[u8] {
     for (place, byte) in shown.iter().enumerate() {
         if *byte == b' ' && place + 3 <= shown.len() {
             return &shown[place + 1..place + 3];
@@ -238,24 +242,27 @@ fn applied(shown: &[u8]) -> &[u8] {
     &[]
 }
 
+fn applied(alloc: Global, left: &str, right: &str) -> Result<Bytes, Fail> {
+    let statement = format!(in alloc; "SELECT {left} = {right} FROM b, x, n, i, r")?;
+    let shown = becomes(alloc, statement.as_bytes())?;
+    Ok(Bytes::copy(alloc, letters(shown.as_slice()))?)
+}
+
 #[test]
 fn applies_affinities(rt: HostRuntime) -> Result<(), Fail> {
-    let alloc = rt.alloc();
-    let dump = read_dump(alloc, TABLES.as_bytes())?;
     for line in APPLIED.lines() {
         let Some((left, row)) = line.split_once(" => ") else {
             continue;
         };
         for (right, want) in SIDES.split_whitespace().zip(row.split_whitespace()) {
-            let statement = format!(in alloc; "SELECT {left} = {right} FROM b, x, n, i, r")?;
-            let shown = becomes(alloc, &dump.schema, statement.as_bytes())?;
-            assert_eq!(rt; applied(shown.as_slice()), want.as_bytes(), "{statement}");
+            let letters = applied(rt.alloc(), left, right)?;
+            assert_eq!(rt; letters.as_slice(), want.as_bytes(), "{left} = {right}");
         }
     }
     Ok(())
 }
 
-/// `SELECT 1` from so many tables, with so many terms.
+/// What `SELECT 1` from so many tables, with so many terms, comes to.
 fn counted(alloc: Global, tables: u32, terms: u32) -> Result<Bytes, Fail> {
     let mut text = Bytes::copy(alloc, b"SELECT 1 FROM x1")?;
     for number in 1..tables {
@@ -265,24 +272,25 @@ fn counted(alloc: Global, tables: u32, terms: u32) -> Result<Bytes, Fail> {
     for _ in 1..terms {
         text.append(b" AND 1")?;
     }
-    Ok(text)
+    becomes(alloc, text.as_slice())
+}
+
+fn is_bound(alloc: Global, tables: u32, terms: u32) -> Result<bool, Fail> {
+    Ok(
+        counted(alloc, tables, terms)?
+            .as_slice()
+            .starts_with(b"1 & 1 "),
+    )
 }
 
 #[test]
 fn counts_tables_and_terms(rt: HostRuntime) -> Result<(), Fail> {
-    let alloc = rt.alloc();
-    let dump = read_dump(alloc, TABLES.as_bytes())?;
-    for [tables, terms] in [[64, 1], [64, 256]] {
-        let statement = counted(alloc, tables, terms)?;
-        let shown = becomes(alloc, &dump.schema, statement.as_slice())?;
-        assert!(rt; shown.as_slice().starts_with(b"1 & 1 "), "{tables} {terms}");
-    }
-    let many_tables = counted(alloc, 65, 257)?;
-    let shown = becomes(alloc, &dump.schema, many_tables.as_slice())?;
-    assert_eq!(rt; shown.as_slice(), b"more than 64 tables".as_slice());
-    let many_terms = counted(alloc, 64, 257)?;
-    let shown = becomes(alloc, &dump.schema, many_terms.as_slice())?;
-    assert_eq!(rt; shown.as_slice(), b"more than 256 terms".as_slice());
+    assert!(rt; is_bound(rt.alloc(), 64, 1)?);
+    assert!(rt; is_bound(rt.alloc(), 64, 256)?);
+    let refused = counted(rt.alloc(), 65, 257)?;
+    assert_eq!(rt; refused.as_slice(), b"more than 64 tables".as_slice());
+    let refused = counted(rt.alloc(), 64, 257)?;
+    assert_eq!(rt; refused.as_slice(), b"more than 256 terms".as_slice());
     Ok(())
 }
 
@@ -296,9 +304,9 @@ no such column: zw
 no such column: zk
 more than 256 terms";
 
-/// A statement in which two of the checks fail, numbered as above, and no other.
-fn failing(alloc: Global, checks: [usize; 2]) -> Result<Bytes, Fail> {
-    let fails = |check| checks[0] == check || checks[1] == check;
+/// What a statement comes to in which two of the checks fail, numbered as above, and no other.
+fn failing(alloc: Global, first: usize, second: usize) -> Result<Bytes, Fail> {
+    let fails = |check| first == check || second == check;
     let mut text = Bytes::copy(alloc, b"SELECT ")?;
     text.append(if fails(3) {
         b"zr FROM x1"
@@ -320,17 +328,14 @@ fn failing(alloc: Global, checks: [usize; 2]) -> Result<Bytes, Fail> {
         text.append(b" AND 1")?;
     }
     text.append(if fails(6) { b" ORDER BY zk" } else { b"" })?;
-    Ok(text)
+    becomes(alloc, text.as_slice())
 }
 
 #[test]
 fn first_failure_counts(rt: HostRuntime) -> Result<(), Fail> {
-    let alloc = rt.alloc();
-    let dump = read_dump(alloc, TABLES.as_bytes())?;
     for (first, why) in CHECKS.lines().enumerate() {
         for second in first..8 {
-            let statement = failing(alloc, [first, second])?;
-            let shown = becomes(alloc, &dump.schema, statement.as_slice())?;
+            let shown = failing(rt.alloc(), first, second)?;
             assert_eq!(rt; shown.as_slice(), why.as_bytes(), "{first}, {second}");
         }
     }
