@@ -22,6 +22,18 @@ const NOTHING: &str = "-- Recommended
 (no new indexes)
 ";
 
+const MISSING_AND_SCAN: &str = "-- Statement 1
+refused: no such table: nope
+
+-- Statement 2
+(no new indexes)
+
+SCAN x1
+
+-- Recommended
+(no new indexes)
+";
+
 const TWO_STATEMENTS: &str = "SELECT y.a AS k FROM \"x1\" 'y' WHERE k = 1;
 SELECT [y].a FROM x1 AS [y] WHERE y.a = 1";
 
@@ -129,6 +141,8 @@ fn reports_and_refuses(rt: HostRuntime) -> Result<(), Fail> {
     assert!(rt; reports(alloc, "-sql", "SELECT b, a FROM X1;", 0, SCAN)?);
     assert!(rt; reports(alloc, "-sql", " ; /* none */ ;;", 0, NOTHING)?);
     assert!(rt; reports(alloc, "-sql", "", 0, NOTHING)?);
+    let missing = "SELECT * FROM nope; SELECT * FROM x1";
+    assert!(rt; reports(alloc, "-sql", missing, 3, MISSING_AND_SCAN)?);
     assert!(rt; reports(alloc, "-sql", TWO_STATEMENTS, 3, TWO_BLOCKS)?);
     let gone = ["--sql", "SELECT * FROM x1", "gone"];
     assert!(rt; refuses(alloc, &gone, X1, 4, "sqlite3_expert: cannot read gone\n")?);
