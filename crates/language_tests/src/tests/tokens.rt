@@ -123,8 +123,8 @@ fn texts_have_these_tokens(rt: HostRuntime) -> Result<(), Fail> {
             assert_eq!(rt; seen.as_slice(), want.as_bytes(), "{text}");
         }
     }
-    let seen = shown(rt.alloc(), b"a\xe9")?;
-    assert_eq!(rt; seen.as_slice(), b" w:a\xe9".as_slice());
+    let seen = shown(rt.alloc(), b"_a$1\xe9 \xc3\xa9")?;
+    assert_eq!(rt; seen.as_slice(), b" w:_a$1\xe9 w:\xc3\xa9".as_slice());
     Ok(())
 }
 
@@ -159,6 +159,8 @@ fn tokens_have_these_values(rt: HostRuntime) -> Result<(), Fail> {
             assert_eq!(rt; value.as_slice(), want.as_bytes(), "{text}");
         }
     }
+    let value = value_of(rt.alloc(), b"x'0aF0'")?;
+    assert_eq!(rt; value.as_slice(), b"\n\xf0".as_slice());
     Ok(())
 }
 
@@ -183,7 +185,7 @@ fn numbers_are_these(rt: HostRuntime) {
     assert_eq!(rt; token_number(b"1.50000"), Some(Number::Dec(15_000)));
     assert_eq!(rt; token_number(b"1.00001"), None);
     assert_eq!(rt;
-        token_number(b"000000000000000000001.5"),
+        token_number(b"000000000000000000000001.5"),
         Some(Number::Dec(15_000))
     );
     assert_eq!(rt;
@@ -202,6 +204,8 @@ fn signs_bring_the_least_integer_within_range(rt: HostRuntime) {
     assert!(rt; signed_number(false, least).is_none());
     let tenth = signed_number(true, Number::Dec(1000));
     assert!(rt; matches!(tenth, Some(Value::Dec(-1000))));
+    let half = signed_number(true, Number::Dec(15_000));
+    assert!(rt; matches!(half, Some(Value::Dec(-15_000))));
 }
 
 fn token(kind: TokenKind, end: u32) -> Token {

@@ -98,38 +98,45 @@ const NUMBERS: &str = "
 0 => int 0
 +7 => int 7
 -007 => int -7
- 7 => NULL
-7  => NULL
-7. => NULL
-.5 => NULL
-1e3 => NULL
---1 => NULL
-- => NULL
- => NULL
+ 7 => none
+7  => none
+7. => none
+.5 => none
+1e3 => none
+--1 => none
+- => none
+ => none
 1.0 => dec 10000
 -0.25 => dec -2500
 -0.0 => dec 0
 +3.1415 => dec 31415
-1.23456 => NULL
-1.50000 => NULL
-1.2.3 => NULL
+1.23456 => none
+1.50000 => none
+1.2.3 => none
 9223372036854775807 => int 9223372036854775807
-9223372036854775808 => NULL
+9223372036854775808 => none
 -9223372036854775808 => int -9223372036854775808
--9223372036854775809 => NULL
+-9223372036854775809 => none
 00000000000000000000001 => int 1
 99999999999.9999 => dec 999999999999999
-100000000000.0 => NULL
+100000000000.0 => none
 -99999999999.9999 => dec -999999999999999
--100000000000.0 => NULL
+-100000000000.0 => none
 ";
+
+/// The number that a text is; `none` where it is none.
+fn number_read(alloc: Global, text: &[u8]) -> Result<Bytes, Fail> {
+    match read_number(text) {
+        Some(number) => shown(alloc, &number),
+        None => Ok(Bytes::copy(alloc, b"none")?),
+    }
+}
 
 #[test]
 fn reads_numbers(rt: HostRuntime) -> Result<(), Fail> {
     for line in NUMBERS.lines() {
         if let Some((text, want)) = line.split_once(" => ") {
-            let number = read_number(text.as_bytes()).unwrap_or(Value::Null);
-            let seen = shown(rt.alloc(), &number)?;
+            let seen = number_read(rt.alloc(), text.as_bytes())?;
             assert_eq!(rt; seen.as_slice(), want.as_bytes(), "{line}");
         }
     }
@@ -268,6 +275,8 @@ fn tells_truth(rt: HostRuntime) -> Result<(), Fail> {
             assert_eq!(rt; holds(rt.alloc(), from)?, want, "{line}");
         }
     }
+    let blob = Value::Blob(Bytes::copy(rt.alloc(), b"\xFF1")?);
+    assert_eq!(rt; truth(&blob), Some(false));
     Ok(())
 }
 
@@ -347,6 +356,15 @@ fn knows_words(rt: HostRuntime) {
             assert!(rt; is_known_as(word, keyword, kind == "reserved"), "{line}");
         }
     }
+    assert_eq!(rt; find_keyword(b"SELECT"), Some(Keyword::Select));
+    assert_eq!(rt; find_keyword(b"isnull"), Some(Keyword::Isnull));
+    assert_eq!(rt; find_keyword(b"desc"), Some(Keyword::Desc));
+    assert_eq!(rt; find_keyword(b"replace"), Some(Keyword::Replace));
+    assert_eq!(rt;
+        find_keyword(b"Current_Timestamp"),
+        Some(Keyword::CurrentTimestamp)
+    );
+    assert_eq!(rt; keyword_text(Keyword::Notnull), b"NOTNULL".as_slice());
     assert!(rt; is_reserved_keyword(Keyword::Not));
     assert!(rt; !is_reserved_keyword(Keyword::Asc));
     assert!(rt; is_same_word(b"aZ_[", b"Az_["));

@@ -156,6 +156,7 @@ fn tells_values(rt: HostRuntime) -> Result<(), Fail> {
     assert_eq!(rt; denied(alloc, Lit::Dec(1))?, "0");
     assert_eq!(rt; denied(alloc, Lit::Null)?, "?");
     assert_eq!(rt; missing(alloc, Lit::Dec(0))?, "0");
+    assert_eq!(rt; missing(alloc, Lit::Dec(1))?, "0");
     assert_eq!(rt; missing(alloc, Lit::Null)?, "1");
     Ok(())
 }
