@@ -1,3 +1,4 @@
 //! A file for each topic.
 mod binding;
+mod service;
 mod shown;

@@ -126,7 +126,7 @@ pub(crate) fn append_results(shown: &mut Bytes, bound: &Bound) -> Result<(), Mem
     Ok(())
 }
 
-/// Each conjunct, with the item that owns it.
+/// Each conjunct.
 fn append_conjuncts(shown: &mut Bytes, bound: &Bound) -> Result<(), Memory> {
     for conjunct in bound.conjuncts {
         shown.append(b"& ")?;
