@@ -10,7 +10,7 @@ ghost use Rattle.sql_read.specs.Parts.{second_cut_at, cuts_at};
 
 use crate::cursor::{Left, after_mark, first};
 use crate::descent::expr;
-use crate::leaf::signed_number;
+use crate::leaf::signed;
 use crate::lexeme::{Direction, Lexeme, Mark, ReadFault};
 use crate::lists::{Member, separated_list};
 use bumpalo::Bump;
@@ -98,7 +98,7 @@ fn count<'a>(negative: bool, lexemes: Left<'a>) -> ReadCut<'a>
         (count_at negative (seen lexemes.now)) }
 {
     match first(lexemes) {
-        Some((Lexeme::Int(magnitude), rest)) => match signed_number(negative, magnitude) {
+        Some((Lexeme::Int(magnitude), rest)) => match signed(negative, magnitude) {
             Some(value) => Ok((Cut::Count(value), rest)),
             None => Err(ReadFault::Syntax),
         },

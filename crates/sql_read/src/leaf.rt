@@ -14,7 +14,7 @@ use sql_tree::{Expr, Lit};
 pub type Read<'a> = Result<(Expr<'a>, Left<'a>), ReadFault>;
 
 /// The number with its sign, where 64 bits hold it.
-pub fn signed_number(negative: bool, magnitude: u64) -> Option<i64>
+pub fn signed(negative: bool, magnitude: u64) -> Option<i64>
     ensures { result ≡ signed negative magnitude }
 {
     if !negative {
@@ -38,11 +38,11 @@ pub fn number<'a>(negative: bool, lexemes: Left<'a>) -> Read<'a>
         (number_at negative (seen lexemes.now)) }
 {
     match first(lexemes) {
-        Some((Lexeme::Int(magnitude), rest)) => match signed_number(negative, magnitude) {
+        Some((Lexeme::Int(magnitude), rest)) => match signed(negative, magnitude) {
             Some(value) => Ok((Expr::Lit(Lit::Int(value)), rest)),
             None => Err(ReadFault::Syntax),
         },
-        Some((Lexeme::Dec(magnitude), rest)) => match signed_number(negative, magnitude) {
+        Some((Lexeme::Dec(magnitude), rest)) => match signed(negative, magnitude) {
             Some(units) => Ok((Expr::Lit(Lit::Dec(units)), rest)),
             None => Err(ReadFault::Syntax),
         },
