@@ -4,7 +4,8 @@ use Rattle.std.specs.Str.{bytes_eq}
 use Rattle.std.proofs.lemmas.Slice.Eq.{bytes_eq-Decides}
 use Rattle.expert_io.specs.Told.{File, file_of}
 use Rattle.expert_main.specs.Causes.{database_of}
-use Rattle.expert_main.specs.Run.{Command, Ran, Means, ReportMeans, advised_on, command_of, run, run_texts}
+use Rattle.expert_main.specs.Run.{Command, Ran, Means, ReportMeans, advised_on, command_of, run}
+use Rattle.expert_main.specs.Run.{run_texts}
 
 -- the file that the words name is read, so the program does what it does on its bytes
 pub runs_texts : (told : Option (List File)) (words : List (List ℕ)) (command : Command)

@@ -1,5 +1,6 @@
 -- The blocks of a report, one after another.
-use Rattle.std.proofs.Common.{◌≡◌, ◌<◌, ◌+◌, ◌++◌, ℕ, zero, suc, List, [], ◌∷◌, refl, sym, ap, ◌∙◌, append_assoc, arith, length, drop}
+use Rattle.std.proofs.Common.{◌≡◌, ◌<◌, ◌+◌, ◌++◌, ℕ, zero, suc, List, [], ◌∷◌, refl, sym, ap, ◌∙◌}
+use Rattle.std.proofs.Common.{append_assoc, arith, length, drop}
 use Rattle.std.proofs.Math.ListN.{get_or}
 use Rattle.expert_report.specs.Reports.{block, blocks}
 use Rattle.expert_report.specs.declared.outcomes.StatementOutcome.{StatementOutcome}

@@ -1,5 +1,6 @@
 -- What the parser answers of a statement, and what its advice is then.
-use Rattle.std.proofs.Common.{◌≡◌, ◌<◌, ◌≤◌, ◌⊎◌, ℕ, ◌+◌, List, Option, None, Some, Result, Ok, Err, refl, subst, inl, inr, arith, length}
+use Rattle.std.proofs.Common.{◌≡◌, ◌<◌, ◌≤◌, ◌⊎◌, ℕ, ◌+◌, List, Option, None, Some, Result, Ok, Err}
+use Rattle.std.proofs.Common.{refl, subst, inl, inr, arith, length}
 use Rattle.std.specs.Prelude.{Bool, true, false, cond, nat_lt}
 use Rattle.std.proofs.lemmas.Bool.{ltb-true}
 use Rattle.sql_tokens.specs.declared.token.Token.{Token}
@@ -10,7 +11,8 @@ use Rattle.sql_lex.specs.Patterns.{entry_numbered, foreign_of, table}
 use Rattle.sql_read.specs.Lexemes.{Lexeme}
 use Rattle.sql_read.specs.Statements.{whole_at}
 use Rattle.sql_parse.specs.declared.refusals.ParseFault.{ParseFault}
-use Rattle.sql_parse.specs.declared.refusals.ParseFault.TheVariants.{Lexical, NumberOutOfProfile, TooDeep, Syntax, Memory}
+use Rattle.sql_parse.specs.declared.refusals.ParseFault.TheVariants.{Lexical, NumberOutOfProfile}
+use Rattle.sql_parse.specs.declared.refusals.ParseFault.TheVariants.{TooDeep, Syntax, Memory}
 use Rattle.sql_parse.specs.declared.refusals.ParseFault.TheVariants.{Foreign as foreign_fault}
 use Rattle.sql_parse.specs.Refusals.{first_refusal, foreign_or, has_bad, outside_from}
 use Rattle.sql_parse.specs.Statements.{IsSpelled, select, update, delete, Sources, sources}
@@ -44,7 +46,8 @@ read_advice schema text tokens t none read = rw (none, read) refl
 -- a statement that isn't read is refused by that fault
 pub refused_advice : {S : Type 0} (schema : Schema) (text : List ℕ)
     (tokens : List Token) (first : Option ParseFault) (fault : ParseFault)
-    → ((t : StatementTree) → whole_at (lexemes_of text tokens) ≡ Some t → IsSpelled (lexemes_of text tokens) t)
+    → ((t : StatementTree) → whole_at (lexemes_of text tokens) ≡ Some t
+    → IsSpelled (lexemes_of text tokens) t)
     → (fault ≡ Memory → ⊥)
     → ((f : ParseFault) → first ≡ Some f → ◌≡◌ {A = Result S ParseFault} (Err fault) (Err f))
     → (first ≡ None → (fault ≡ Syntax) ⊎ (fault ≡ Memory))
@@ -67,7 +70,8 @@ refused_advice schema text tokens None fault read other refused otherwise only =
 refused_foreign : (bad outside deep : Bool) (found : Option Foreign) (f : Foreign)
     → cond bad (Some Lexical)
     (foreign_or found
-    (cond outside (Some NumberOutOfProfile) (cond deep (Some TooDeep) None))) ≡ Some (foreign_fault f)
+    (cond outside (Some NumberOutOfProfile) (cond deep (Some TooDeep) None)))
+    ≡ Some (foreign_fault f)
     → found ≡ Some f
 refused_foreign true outside deep found f e = cc
 refused_foreign false outside deep (Some g) f e = cc
@@ -75,7 +79,8 @@ refused_foreign false true deep None f e = cc
 refused_foreign false false true None f e = cc
 refused_foreign false false false None f e = cc
 
-numbered : (n count : ℕ) (f : Foreign) → entry_numbered n count ≡ Some f → (1 ≤ f.entry) × (f.entry ≤ count)
+numbered : (n count : ℕ) (f : Foreign) → entry_numbered n count ≡ Some f
+    → (1 ≤ f.entry) × (f.entry ≤ count)
 numbered n count f e = below (nat_lt n count) refl e
   where
     below : (b : Bool) → nat_lt n count ≡ b → cond b (Some (record { entry = n + 1 })) None ≡ Some f
@@ -89,7 +94,8 @@ pub named : (text : List ℕ) (tokens : List Token) (fault : ParseFault)
     → first_refusal text tokens ≡ Some fault → IsNamed fault
 unfolding first_refusal foreign_of table
 named text tokens (foreign_fault f) e =
-    numbered _ _ f (refused_foreign (has_bad tokens) (outside_from text false tokens) (nat_lt 200 (depth_of text tokens)) (foreign_of text tokens) f e)
+    numbered _ _ f (refused_foreign (has_bad tokens) (outside_from text false tokens)
+    (nat_lt 200 (depth_of text tokens)) (foreign_of text tokens) f e)
 named text tokens Lexical e = tt
 named text tokens NumberOutOfProfile e = tt
 named text tokens TooDeep e = tt

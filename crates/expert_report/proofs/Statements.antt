@@ -45,19 +45,24 @@ advice_at schema text tokens spans t s = rw (s, t) refl
 pub report_is : (schema : Schema) (text : List ℕ) (tokens : List Token) (spans : List Span)
     → tokens ≡ tokens_of text → spans ≡ statements_of text tokens
     → (outcomes : List StatementOutcome)
-    → outcomes ≡ map (λ span. outcome_of schema (statement_advice schema text (run_of tokens span))) spans
-    → ◌≡◌ {A = Report} (record { statements = outcomes }) (report_on schema (script_advice schema text))
+    → outcomes ≡ map (λ span. outcome_of schema (statement_advice schema text (run_of tokens span)))
+    spans
+    → ◌≡◌ {A = Report} (record { statements = outcomes })
+    (report_on schema (script_advice schema text))
 report_is schema text tokens spans t s outcomes is =
     let whole : outcomes ≡ map (outcome_of schema) (script_advice schema text) =
-    is ∙ map_twice (outcome_of schema) (λ span. statement_advice schema text (run_of tokens span)) spans
+    is ∙ map_twice (outcome_of schema) (λ span. statement_advice schema text (run_of tokens span))
+    spans
     ∙ ap (map (outcome_of schema)) (advice_at schema text tokens spans t s) in
     ap (λ os. record { statements = os }) whole
 
 pub each_means : (schema : Schema) (text : List ℕ) (tokens : List Token) (spans : List Span)
     → tokens ≡ tokens_of text → spans ≡ statements_of text tokens
     → AllByRecursion
-    (λ span. AdviceMeans (plain_schema schema) (statement_advice schema text (run_of tokens span))) spans
+    (λ span. AdviceMeans (plain_schema schema) (statement_advice schema text (run_of tokens span)))
+    spans
     → EachMeans schema (script_advice schema text)
 each_means schema text tokens spans t s h =
     subst (EachMeans schema) (advice_at schema text tokens spans t s)
-    (each_mapped (AdviceMeans (plain_schema schema)) (λ span. statement_advice schema text (run_of tokens span)) spans h)
+    (each_mapped (AdviceMeans (plain_schema schema))
+    (λ span. statement_advice schema text (run_of tokens span)) spans h)

@@ -109,7 +109,8 @@ unqueried :
     (us : List Terminal)
     → ts ≡ u ∷ us
     → is_keyword_among (keyword.Select ∷ keyword.With ∷ keyword.Values ∷ []) (Some u) ≡ true → ⊥
-unfolding symbol_class symbol_mark mark_class phase_behind keyword_class keyword_mark is_reserved_word
+unfolding symbol_class symbol_mark mark_class phase_behind keyword_class keyword_mark
+    is_reserved_word
 unqueried k p bs t ts there h u us e query =
     let rest = seen k p bs t ts scan.Open (symbol_is symbol.OpenParenthesis t there) h in
     let next = subst (λ r. Taken k scan.Anew (stack_behind p scan.Open bs) r) e rest.1 in

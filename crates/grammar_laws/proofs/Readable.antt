@@ -50,7 +50,8 @@ nothing = record { passed = λ rest. refl }
 
 beside : {fs bs : List Lexeme} → Passes fs → Passes bs → Passes (fs ++ bs)
 beside {fs} {bs} a b = record {
-  passed = λ rest. ap (are_readable false) (append_assoc fs bs rest) ∙ a.passed (bs ++ rest) ∙ b.passed rest;
+  passed = λ rest. ap (are_readable false) (append_assoc fs bs rest) ∙ a.passed (bs ++ rest)
+      ∙ b.passed rest;
 }
 
 along : {ts qs : List Lexeme} → ts ≡ qs → Passes qs → Passes ts
@@ -58,7 +59,8 @@ along e q = subst Passes (sym e) q
 
 -- one more lexeme in front
 front :
-    (t : Lexeme) {ts : List Lexeme} → is_readable false t ≡ true → is_minus t ≡ false → Passes ts → Passes (t ∷ ts)
+    (t : Lexeme) {ts : List Lexeme} → is_readable false t ≡ true → is_minus t ≡ false → Passes ts
+    → Passes (t ∷ ts)
 front t r m h = record { passed = λ rest. rw (r, m) (h.passed rest) }
 
 alone : (t : Lexeme) → is_readable false t ≡ true → is_minus t ≡ false → Passes (t ∷ [])
@@ -68,7 +70,8 @@ number : {t : Lexeme} {v : Value} → IsNumber false t v → Passes (t ∷ [])
 number (g.int e) = record { passed = λ rest. rw e refl }
 number (g.dec e) = record { passed = λ rest. rw e refl }
 
-negative_number : {t : Lexeme} {v : Value} → IsNumber true t v → Passes (lexeme.Fixed mark.Minus ∷ t ∷ [])
+negative_number : {t : Lexeme} {v : Value} → IsNumber true t v
+    → Passes (lexeme.Fixed mark.Minus ∷ t ∷ [])
 negative_number (g.int e) = record { passed = λ rest. rw e refl }
 negative_number (g.dec e) = record { passed = λ rest. rw e refl }
 
@@ -94,7 +97,8 @@ word : (neg : Bool) (m : Mark) → is_minus (lexeme.Fixed m) ≡ false → Passe
 word false m b = alone (lexeme.Fixed m) refl b
 word true m b = front _ refl refl (alone (lexeme.Fixed m) refl b)
 
-enclosed : {es : List Lexeme} → Passes es → Passes (lexeme.Fixed mark.Open ∷ (es ++ lexeme.Fixed mark.Close ∷ []))
+enclosed : {es : List Lexeme} → Passes es
+    → Passes (lexeme.Fixed mark.Open ∷ (es ++ lexeme.Fixed mark.Close ∷ []))
 enclosed h = front _ refl refl (beside h (alone _ refl refl))
 
 mutual
@@ -116,7 +120,8 @@ mutual
       along e (beside (expression x) (beside (word neg mark.In refl) (enclosed (members xs refl))))
   expression (g.plus x) = front _ refl refl (expression x)
   expression (g.simple x) = expression x
-  expression (g.collated c d x e) = along e (beside (expression x) (front _ refl refl (alone _ refl refl)))
+  expression (g.collated c d x e) =
+      along e (beside (expression x) (front _ refl refl (alone _ refl refl)))
   expression g.null = alone _ refl refl
   expression (g.number n) = number n
   expression (g.negative n) = negative_number n
@@ -137,7 +142,8 @@ mutual
 -- The parts of statements.
 
 listed :
-    {A : Type 0} (one : List Lexeme → A → Type 0) → ((ts : List Lexeme) (x : A) → one ts x → Passes ts)
+    {A : Type 0} (one : List Lexeme → A → Type 0)
+    → ((ts : List Lexeme) (x : A) → one ts x → Passes ts)
     → {ts : List Lexeme} {xs : List A} → Listed one ts xs → Passes ts
 listed one passes (s.last {ts = ts} {x = x} r) = passes ts x r
 listed one passes (s.more {fs = fs} {x = x} r later e) =
@@ -166,7 +172,8 @@ result _ _ (s.value x a e) = along e (beside (expression x) (alias a))
 table : {cross : Bool} {ts : List Lexeme} {source : SourceTree} → Table cross ts source → Passes ts
 table (s.table t d a) = front _ refl refl (alias a)
 
-joined : {cross : Bool} {ts : List Lexeme} {source : SourceTree} → Joined cross ts source → Passes ts
+joined : {cross : Bool} {ts : List Lexeme} {source : SourceTree} → Joined cross ts source
+    → Passes ts
 joined (s.joined t on e) = along e (front _ refl refl (beside (table t) (condition refl on)))
 
 join : {ts : List Lexeme} {source : SourceTree} → Join ts source → Passes ts
@@ -202,8 +209,10 @@ count (s.param n) = alone _ refl refl
 limits : {ts : List Lexeme} {cuts : Cuts} → Limits ts cuts → Passes ts
 limits s.none = nothing
 limits (s.limit c) = front _ refl refl (count c)
-limits (s.limit_offset c d e) = along e (front _ refl refl (beside (count c) (front _ refl refl (count d))))
-limits (s.offset_limit c d e) = along e (front _ refl refl (beside (count c) (front _ refl refl (count d))))
+limits (s.limit_offset c d e) =
+    along e (front _ refl refl (beside (count c) (front _ refl refl (count d))))
+limits (s.offset_limit c d e) =
+    along e (front _ refl refl (beside (count c) (front _ refl refl (count d))))
 
 setting : (ts : List Lexeme) (set : SetTree) → Setting ts set → Passes ts
 setting _ _ (s.set c d x) = front _ refl refl (front _ refl refl (expression x))
@@ -214,7 +223,8 @@ perhaps_all s.all = alone _ refl refl
 
 statement : {ts : List Lexeme} {tree : StatementTree} → IsSpelled ts tree → Passes ts
 statement (s.select q i t f o c e) =
-    along e (front _ refl refl (beside (perhaps_all q) (beside (listed Result result i) (front _ refl refl
+    along e (front _ refl refl
+    (beside (perhaps_all q) (beside (listed Result result i) (front _ refl refl
     (beside (sources t) (beside (condition refl f) (beside (sort_keys o) (limits c))))))))
 statement (s.update t u f e) =
     along e (front _ refl refl (beside (table t) (front _ refl refl
@@ -223,5 +233,7 @@ statement (s.delete t f e) =
     along e (front _ refl refl (front _ refl refl (beside (table t) (condition refl f))))
 
 -- a run that the grammar spells is readable
-pub spelled_readable : {ts : List Lexeme} {tree : StatementTree} → IsSpelled ts tree → are_readable false ts ≡ true
-spelled_readable {ts} spelled = ap (are_readable false) (sym (append-nil ts)) ∙ (statement spelled).passed []
+pub spelled_readable : {ts : List Lexeme} {tree : StatementTree} → IsSpelled ts tree
+    → are_readable false ts ≡ true
+spelled_readable {ts} spelled =
+    ap (are_readable false) (sym (append-nil ts)) ∙ (statement spelled).passed []

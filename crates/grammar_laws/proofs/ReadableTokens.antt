@@ -1,7 +1,8 @@
 -- Tokens whose lexemes are readable: none is bad, and no number is outside the profile. So a
 -- spelled statement is refused for its depth alone.
 use Rattle.std.proofs.Common.{◌≡◌, ℕ, ◌+◌, ◌*◌, ◌^◌, ◌≤◌, ◌<◌, Bool, true, false, not, cond, nat_lt}
-use Rattle.std.proofs.Common.{nat_le, if◌then◌else◌, Option, None, Some, option_map, option_and_then, position}
+use Rattle.std.proofs.Common.{nat_le, if◌then◌else◌, Option, None, Some, option_map}
+use Rattle.std.proofs.Common.{option_and_then, position}
 use Rattle.std.proofs.Common.{List, [], ◌∷◌, ◌++◌, length, take, drop, refl, ap, ◌∙◌, subst, arith}
 use Rattle.sql_meaning.specs.Numbers.{bare, pointed, digits_up_to}
 use Rattle.sql_meaning.specs.Numbers.{last_digit_units, is_point}
@@ -78,7 +79,8 @@ decimal_below ds fs (Some n) (Some f) d e =
 around_below : (bytes : List ℕ) (o : Option ℕ) → IsBelow (number_around bytes o)
 around_below bytes None = whole_below (digits_up_to (2 ^ 63) bytes)
 around_below bytes (Some place) =
-    decimal_below (or_zero (take place bytes)) (or_zero (without_trailing 48 (drop (place + 1) bytes))) _ _ refl refl
+    decimal_below (or_zero (take place bytes))
+    (or_zero (without_trailing 48 (drop (place + 1) bytes))) _ _ refl refl
 
 -- Numbers.
 
@@ -89,11 +91,13 @@ whole_has_value true n e = grind arith
 whole_has_value false n e = grind arith
 
 decimal_has_value :
-    (negative : Bool) (units : ℕ) → units < 10 ^ 15 → has_value negative (Some (number.Dec units)) ≡ true
+    (negative : Bool) (units : ℕ) → units < 10 ^ 15
+    → has_value negative (Some (number.Dec units)) ≡ true
 decimal_has_value negative units h = grind arith
 
 number_has_value :
-    (negative : Bool) (o : Option Number) → IsBelow o → is_readable negative (number_lexeme o) ≡ true
+    (negative : Bool) (o : Option Number) → IsBelow o
+    → is_readable negative (number_lexeme o) ≡ true
     → has_value negative o ≡ true
 number_has_value negative None h e = cc
 number_has_value negative (Some (number.Int n)) h e = whole_has_value negative n e
@@ -103,14 +107,17 @@ number_has_value negative (Some (number.Dec units)) h e = decimal_has_value nega
 
 not_outside :
     (t : Terminal) (negative : Bool) (bytes value : List ℕ) (met : Met)
-    → is_readable negative (lexeme_by t bytes value met) ≡ true → is_outside_by t negative bytes ≡ false
+    → is_readable negative (lexeme_by t bytes value met) ≡ true
+    → is_outside_by t negative bytes ≡ false
 not_outside terminal.Number negative bytes value met e =
-    ap not (number_has_value negative (number_of bytes) (around_below bytes (position is_point bytes)) e)
+    ap not (number_has_value negative (number_of bytes)
+    (around_below bytes (position is_point bytes)) e)
 not_outside _ negative bytes value met e = refl
 
 not_bad_kind :
     (k : TokenKind) (negative : Bool) (bytes value : List ℕ) (met : Met)
-    → is_readable negative (lexeme_by (terminal_of_kind k bytes) bytes value met) ≡ true → is_bad_kind k ≡ false
+    → is_readable negative (lexeme_by (terminal_of_kind k bytes) bytes value met) ≡ true
+    → is_bad_kind k ≡ false
 unfolding is_bad_kind
 not_bad_kind kind.Bad negative bytes value met e = cc
 not_bad_kind _ negative bytes value met e = refl
@@ -119,7 +126,8 @@ not_bad :
     (text : List ℕ) (met : Met) (negative : Bool) (t : Token)
     → is_readable negative (lexeme_at text met t) ≡ true → is_bad_kind t.kind ≡ false
 unfolding lexeme_at terminal_of
-not_bad text met negative t e = not_bad_kind t.kind negative (text_of text t) (value_of text t) met e
+not_bad text met negative t e =
+    not_bad_kind t.kind negative (text_of text t) (value_of text t) met e
 
 -- A lexeme is the minus where its terminal is.
 
@@ -141,7 +149,8 @@ keyword_minus keyword.Select = refl
 keyword_minus _ = refl
 
 symbol_minus :
-    (s : Symbol) → is_minus (mark_or (symbol_mark s) lexeme.Other) ≡ refusals.is_minus (terminal.Symbol s)
+    (s : Symbol) → is_minus (mark_or (symbol_mark s) lexeme.Other)
+    ≡ refusals.is_minus (terminal.Symbol s)
 unfolding symbol_mark refusals.is_minus
 symbol_minus symbol.Minus = refl
 symbol_minus _ = refl
@@ -188,7 +197,8 @@ readable_tokens text met negative (t ∷ ts) e =
 
 -- nothing but its depth refuses a statement that the grammar spells
 pub refused_for_depth_alone :
-    (text : List ℕ) (tokens : List Token) (tree : StatementTree) → IsSpelled (lexemes_of text tokens) tree
+    (text : List ℕ) (tokens : List Token) (tree : StatementTree)
+    → IsSpelled (lexemes_of text tokens) tree
     → first_refusal text tokens ≡ cond (nat_lt 200 (depth_of text tokens)) (Some fault.TooDeep) None
 unfolding first_refusal
 refused_for_depth_alone text tokens tree spelled =

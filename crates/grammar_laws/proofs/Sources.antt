@@ -61,7 +61,8 @@ no_open k bs e = cc
 
 pub no_parenthesized_join :
     (k : Kind) (first : Option Terminal) → NeverAt place_of k first fits_parenthesized_join
-unfolding fits_parenthesized_join is_symbol keyword_class keyword_mark symbol_class symbol_mark mark_class
+unfolding fits_parenthesized_join is_symbol keyword_class keyword_mark symbol_class symbol_mark
+    mark_class
 no_parenthesized_join k first p bs before t [] b h e =
     second_false (is_keyword_among (keyword.From ∷ keyword.Join ∷ []) (Some t)) e
 no_parenthesized_join k first p bs before t (u ∷ us) b h e =
@@ -111,7 +112,8 @@ three_names k p bs t u v w ws h e =
 
 pub no_qualified_table :
     (k : Kind) (first : Option Terminal) → NeverAt place_of k first fits_qualified_table
-unfolding fits_qualified_table is_symbol is_name is_free_word keyword_class keyword_mark mark_class phase_behind
+unfolding fits_qualified_table is_symbol is_name is_free_word keyword_class keyword_mark mark_class
+    phase_behind
 no_qualified_table k first p bs before t [] b h e =
     elim (either
     (is_keyword_among (keyword.From ∷ keyword.Join ∷ keyword.Update ∷ [])

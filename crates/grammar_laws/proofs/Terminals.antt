@@ -189,13 +189,15 @@ ends _ = false
 keyword_end :
     (k : Keyword) → is_operand_end (Some (terminal.Keyword k)) ≡ true
     → ends (keyword_class k) ≡ true
-unfolding is_operand_end is_name is_free_word is_literal is_keyword is_symbol is_reserved_word keyword_class keyword_mark mark_class
+unfolding is_operand_end is_name is_free_word is_literal is_keyword is_symbol is_reserved_word
+    keyword_class keyword_mark mark_class
 keyword_end keyword.Null e = refl
 keyword_end _ e = cc
 
 symbol_end :
     (s : Symbol) → is_operand_end (Some (terminal.Symbol s)) ≡ true → ends (symbol_class s) ≡ true
-unfolding is_operand_end is_name is_free_word is_literal is_keyword is_symbol symbol_class symbol_mark mark_class
+unfolding is_operand_end is_name is_free_word is_literal is_keyword is_symbol symbol_class
+    symbol_mark mark_class
 symbol_end symbol.CloseParenthesis e = refl
 symbol_end _ e = cc
 

@@ -74,7 +74,11 @@ loops_are_offers : (schema : Schema) (bound : Bound) (needs : List (List ℕ))
 loops_are_offers schema bound needs fits one = record {
   used = λ l. AllOf [];
   once = rw one (same (0 ∷ []));
-  offered = (scan_offer schema bound [] 0 _ (sound_fits schema bound bound.conjuncts fits.conjuncts) refl, tt);
+  offered = (
+    scan_offer schema bound [] 0 _ (sound_fits schema bound bound.conjuncts fits.conjuncts)
+        refl,
+    tt,
+  );
   some = λ e. cc;
   named = sound_named schema bound.items one bound.conjuncts fits.conjuncts;
   owners = fits.owners;

@@ -9,6 +9,7 @@ pub chosen : {X : Type 0} (P : X → Type 0) (b : Bool) (x y : X) → P x → P 
 chosen P true x y h k = h
 chosen P false x y h k = k
 
-pub and_then : {X Y : Type 0} (P : Y → Type 0) (f : X → Option Y) (o : Option X) → ((x : X) → MayBe P (f x)) → MayBe P (option_and_then f o)
+pub and_then : {X Y : Type 0} (P : Y → Type 0) (f : X → Option Y) (o : Option X)
+    → ((x : X) → MayBe P (f x)) → MayBe P (option_and_then f o)
 and_then P f None h = tt
 and_then P f (Some x) h = h x

@@ -19,24 +19,41 @@ pub record Kept (n : ℕ) (d : State) : Type 0 where
 
 module _ (n : ℕ) (d : State) (k : Kept n d) where
   pub more : AllByRecursion (λ rows. length rows ≤ suc n) d.rows
-  more = all_map (λ rows. length rows ≤ n) (λ rows. length rows ≤ suc n) d.rows (λ rows h. omega (arith, h)) k.few
+  more = all_map (λ rows. length rows ≤ n) (λ rows. length rows ≤ suc n) d.rows
+      (λ rows h. omega (arith, h)) k.few
 
   pub unchanged : Kept (suc n) d
   unchanged = record { rows = k.rows; aliased = k.aliased; few = more; unusable = k.unusable }
 
   pub statement_passed : Kept (suc n) (pass_statement d)
-  statement_passed = record { rows = k.rows; aliased = k.aliased; few = more; unusable = k.unusable }
+  statement_passed = record {
+    rows = k.rows;
+    aliased = k.aliased;
+    few = more;
+    unusable = k.unusable;
+  }
 
   pub row_passed : Kept (suc n) (pass_row d)
   row_passed = record { rows = k.rows; aliased = k.aliased; few = more; unusable = k.unusable }
 
   pub given_kept : (given : Given) → Kept (suc n) (record d { given = d.given ++ given ∷ [] })
-  given_kept given = record { rows = k.rows; aliased = k.aliased; few = more; unusable = k.unusable }
+  given_kept given = record {
+    rows = k.rows;
+    aliased = k.aliased;
+    few = more;
+    unusable = k.unusable;
+  }
 
   pub unread_kept : (name : List ℕ) → Kept (suc n) (with_schema d (with_unread d.schema name))
-  unread_kept name = record { rows = k.rows; aliased = k.aliased; few = more; unusable = k.unusable }
+  unread_kept name = record {
+    rows = k.rows;
+    aliased = k.aliased;
+    few = more;
+    unusable = k.unusable;
+  }
 
-  pub index_kept : (index : Index) → IsEmptyUnlessUsable index → Kept (suc n) (with_schema d (with_index d.schema index))
+  pub index_kept : (index : Index) → IsEmptyUnlessUsable index
+      → Kept (suc n) (with_schema d (with_index d.schema index))
   index_kept index u = record {
     rows = k.rows;
     aliased = k.aliased;

@@ -1,8 +1,11 @@
 -- The values of tokens are bytes where the text is.
-use Rattle.std.proofs.Common.{ℕ, zero, suc, ◌-◌, ◌<◌, ◌==◌, ◌&&◌, nat_le, List, [], ◌∷◌, length, take, drop, arith}
+use Rattle.std.proofs.Common.{ℕ, zero, suc, ◌-◌, ◌<◌, ◌==◌, ◌&&◌, nat_le, List, [], ◌∷◌, length}
+use Rattle.std.proofs.Common.{take, drop, arith}
 use Rattle.sql_meaning.specs.Values.{IsBytes}
 use Rattle.sql_tokens.specs.Terminals.{text_of}
-use Rattle.sql_tokens.specs.TokenValues.{undoubled, undoubled_behind, front, quoted_value, hex_digit, hex_bytes, hex_bytes_behind, blob_value, value_of_kind, value_of}
+use Rattle.sql_tokens.specs.TokenValues.{undoubled, undoubled_behind, front, quoted_value}
+use Rattle.sql_tokens.specs.TokenValues.{hex_digit, hex_bytes, hex_bytes_behind, blob_value}
+use Rattle.sql_tokens.specs.TokenValues.{value_of_kind, value_of}
 use Rattle.sql_tokens.specs.declared.token.Token.{Token}
 use Rattle.sql_tokens.specs.declared.token.TokenKind.{TokenKind}
 use Rattle.sql_tokens.specs.declared.token.TokenKind.TheVariants as kind
@@ -27,11 +30,13 @@ text_bytes text token h =
 mutual
   undoubled_bytes : (q : ℕ) (bs : List ℕ) → IsBytes bs → IsBytes (undoubled q bs)
   undoubled_bytes q [] h = tt
-  undoubled_bytes q (b ∷ bs) h = (h.0, chosen IsBytes (b == q) _ _ (behind_bytes q bs h.1) (undoubled_bytes q bs h.1))
+  undoubled_bytes q (b ∷ bs) h =
+      (h.0, chosen IsBytes (b == q) _ _ (behind_bytes q bs h.1) (undoubled_bytes q bs h.1))
 
   behind_bytes : (q : ℕ) (bs : List ℕ) → IsBytes bs → IsBytes (undoubled_behind q bs)
   behind_bytes q [] h = tt
-  behind_bytes q (b ∷ bs) h = chosen IsBytes (b == q) _ _ (undoubled_bytes q bs h.1) (h.0, undoubled_bytes q bs h.1)
+  behind_bytes q (b ∷ bs) h =
+      chosen IsBytes (b == q) _ _ (undoubled_bytes q bs h.1) (h.0, undoubled_bytes q bs h.1)
 
 front_bytes : (bs : List ℕ) → IsBytes bs → IsBytes (front bs)
 front_bytes bs h = all_take (length bs - 1) bs h
@@ -39,7 +44,9 @@ front_bytes bs h = all_take (length bs - 1) bs h
 quoted_bytes : (bs : List ℕ) → IsBytes bs → IsBytes (quoted_value bs)
 unfolding quoted_value
 quoted_bytes [] h = tt
-quoted_bytes (q ∷ bs) h = chosen IsBytes (q == 91) _ _ (front_bytes bs h.1) (undoubled_bytes q (front bs) (front_bytes bs h.1))
+quoted_bytes (q ∷ bs) h =
+    chosen IsBytes (q == 91) _ _ (front_bytes bs h.1)
+    (undoubled_bytes q (front bs) (front_bytes bs h.1))
 
 small_digit : (b : ℕ) → hex_digit b < 16
 unfolding hex_digit
@@ -52,7 +59,8 @@ mutual
 
   hex_behind_bytes : (high : ℕ) (bs : List ℕ) → high < 16 → IsBytes (hex_bytes_behind high bs)
   hex_behind_bytes high [] h = tt
-  hex_behind_bytes high (b ∷ bs) h = let low = small_digit b in (omega (arith, h, low), hex_are_bytes bs)
+  hex_behind_bytes high (b ∷ bs) h = let low = small_digit b in
+      (omega (arith, h, low), hex_are_bytes bs)
 
 blob_bytes : (bs : List ℕ) → IsBytes (blob_value bs)
 unfolding blob_value

@@ -1,5 +1,6 @@
 -- Results noted under their aliases.
-use Rattle.std.proofs.Common.{◌≡◌, ℕ, Bool, true, false, cond, Option, Some, None, is_some, option_map}
+use Rattle.std.proofs.Common.{◌≡◌, ℕ, Bool, true, false, cond, Option, Some, None, is_some}
+use Rattle.std.proofs.Common.{option_map}
 use Rattle.std.proofs.Common.{List, [], ◌∷◌, ◌++◌, refl, ap, sym, subst, ◌∙◌}
 use Rattle.std.proofs.Common.{true≢false, ◌+◌, ◌<◌, length, get_or, take}
 use Rattle.std.specs.Borrow.{Bor}
@@ -72,12 +73,14 @@ module _ (entries : List (Vec ℕ × Bor BExpr)) (results : List ResultColumn)
       (sym (same_text name (folded_bytes alias) (sym same))) there)
       ∙ ap (option_map (λ r. r.expr)) (sym (find_last name results r))
 
-  pub noted_last : (alias : List ℕ) (expr : Bor BExpr) (key : Vec ℕ) → key.items ≡ folded_bytes alias
+  pub noted_last : (alias : List ℕ) (expr : Bor BExpr) (key : Vec ℕ)
+      → key.items ≡ folded_bytes alias
       → HasAliases (entries ++ (key, expr) ∷ [])
       (results ++ record { expr = expr_of expr.now; alias = Some alias } ∷ [])
   noted_last alias expr key is name =
       let r : ResultColumn = record { expr = expr_of expr.now; alias = Some alias } in
-      ap (option_map (λ e. expr_of e.now)) (lookup_push (λ k. is_name name k.items) entries (key, expr))
+      ap (option_map (λ e. expr_of e.now))
+      (lookup_push (λ k. is_name name k.items) entries (key, expr))
       ∙ ap
       (λ n. option_map (λ e. expr_of e.now)
       (option_or (lookup (λ k. is_name name k.items) entries)
@@ -110,12 +113,14 @@ seen_more : (columns : List Column) (i : ℕ) (d : Column) → i < length column
     → results_seen (take (i + 1) columns)
     ≡ results_seen (take i columns) ++ result_of (get_or columns i d) ∷ []
 seen_more columns i d below =
-    ap results_seen (take_more columns i d below) ∙ map_push result_of (take i columns) (get_or columns i d)
+    ap results_seen (take_more columns i d below)
+    ∙ map_push result_of (take i columns) (get_or columns i d)
 
 -- a turn of the loop over results
 module _ (entries : List (Vec ℕ × Bor BExpr)) (columns : List Column) (i : ℕ) (d : Column)
     (below : i < length columns) where
-  alias_turn : HasAliases entries (results_seen (take i columns) ++ result_of (get_or columns i d) ∷ [])
+  alias_turn : HasAliases entries
+      (results_seen (take i columns) ++ result_of (get_or columns i d) ∷ [])
       → HasAliases entries (results_seen (take (i + 1) columns))
   alias_turn h = subst (HasAliases entries) (sym (seen_more columns i d below)) h
 

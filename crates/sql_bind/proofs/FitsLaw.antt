@@ -84,7 +84,8 @@ module _ (scope : Scope) (ok : IsScope scope) where
   needed_at : (rowids : Bool) (exprs : List BExpr) (item : ℕ) (columns : List ℕ)
       → slice_get (map (needed_of scope rowids exprs) (range_with_len 0 (length scope.items))) item
       ≡ Some columns
-      → AllByRecursion (λ column. column < width (plain_schema scope.schema) scope.items item) columns
+      → AllByRecursion (λ column. column < width (plain_schema scope.schema) scope.items item)
+      columns
   needed_at rowids exprs item columns is =
       let needs = map (needed_of scope rowids exprs) (range_with_len 0 (length scope.items)) in
       let below : item < length scope.items =
@@ -111,7 +112,8 @@ module _ (scope : Scope) (ok : IsScope scope) where
       IsSound (plain_schema scope.schema) scope.items
       (key_expr scope (results_in scope tree) key.expr))
       (λ key.
-      key_sound scope ok (results_in scope tree) (results_sound scope ok (entries_of tree)) key.expr)
+      key_sound scope ok (results_in scope tree) (results_sound scope ok (entries_of tree))
+      key.expr)
       (keys_of tree))
 
 few_terms : (scope : Scope) (tree : StatementTree) → first_failing (later_checks scope tree) ≡ None
@@ -122,7 +124,8 @@ few_terms scope tree h =
     let d = passed_both (of_sets scope tree) _ b.1 in
     let e = passed_both (of_filter scope tree) _ d.1 in
     let f = passed_both (of_keys scope tree) (of_count scope tree) e.1 in
-    few 256 (length (terms_in scope tree)) _ (passed_one (count_of_terms_check (terms_in scope tree)) [] f.1).0
+    few 256 (length (terms_in scope tree)) _
+    (passed_one (count_of_terms_check (terms_in scope tree)) [] f.1).0
 
 -- the plain schema has as many tables
 all_tables : (schema : Schema) (sources : List SourceTree) → IsScope (scope_of schema sources)

@@ -1,5 +1,6 @@
 -- The checks of FROM before those of the other clauses.
-use Rattle.std.proofs.Common.{◌≡◌, ◌≤◌, ℕ, Bool, true, false, nat_lt, if◌then◌else◌, Option, None, Some}
+use Rattle.std.proofs.Common.{◌≡◌, ◌≤◌, ℕ, Bool, true, false, nat_lt, if◌then◌else◌, Option, None}
+use Rattle.std.proofs.Common.{Some}
 use Rattle.std.proofs.Common.{Result, List, [], ◌∷◌, ◌++◌, map, flat_map, length, refl, ap}
 use Rattle.std.proofs.Common.{arith}
 use Rattle.sql_tree.specs.Statements.{SourceTree, StatementTree}

@@ -1,6 +1,7 @@
 -- Marks after marks.
 use Rattle.std.proofs.Common.{◌≡◌, ◌<◌, ◌+◌, ℕ, Bool, true, false, ◌||◌, List, [], ◌∷◌, ◌++◌}
-use Rattle.std.proofs.Common.{length, get_or, take, replicate, filter, zero, suc, cond, refl, ap, sym, ◌∙◌, arith}
+use Rattle.std.proofs.Common.{length, get_or, take, replicate, filter, zero, suc, cond, refl, ap}
+use Rattle.std.proofs.Common.{sym, ◌∙◌, arith}
 use Rattle.std.specs.Borrow.{Bor}
 use Rattle.std.specs.List.{slice_index_or, list_any, range_with_len}
 use Rattle.std.proofs.lemmas.List.{length-replicate, get_or-replicate}
@@ -19,7 +20,8 @@ pub marks_as : (n m : ℕ → Bool) (old new : List Bool) → ((column : ℕ) �
     → Marks n old new → Marks m old new
 marks_as n m old new same h = record {
   length_kept = h.length_kept;
-  each = λ column below. h.each column below ∙ ap (λ b. slice_index_or old column false || b) (same column);
+  each = λ column below. h.each column below
+      ∙ ap (λ b. slice_index_or old column false || b) (same column);
 }
 
 pub marks_both : (n m : ℕ → Bool) (old mid new : List Bool) → Marks n old mid → Marks m mid new

@@ -1,6 +1,7 @@
 -- What FROM is where its checks pass.
 use Rattle.std.proofs.Common.{◌≡◌, ◌<◌, ◌≤◌, ℕ, Bool, true, false, nat_lt, if◌then◌else◌}
-use Rattle.std.proofs.Common.{Option, None, Some, List, [], ◌∷◌, ◌++◌, map, flat_map, length, position}
+use Rattle.std.proofs.Common.{Option, None, Some, List, [], ◌∷◌, ◌++◌, map, flat_map, length}
+use Rattle.std.proofs.Common.{position}
 use Rattle.std.proofs.Common.{refl, ap, sym, subst, ◌∙◌, arith}
 use Rattle.std.specs.List.{AllByRecursion}
 use Rattle.std.proofs.lemmas.List.{length-map, append_assoc, append-nil}
@@ -79,7 +80,8 @@ names_differ earlier [] h differ = subst Differ (sym (append-nil earlier)) diffe
 names_differ earlier (name ∷ names) h differ =
     let one = passed_one (name_check earlier name)
     (name_checks (earlier ++ folded_bytes name ∷ []) names) h in
-    let free = is_free (folded_bytes name) earlier _ (has_name (folded_bytes name) earlier) refl one.0 in
+    let free = is_free (folded_bytes name) earlier _ (has_name (folded_bytes name) earlier) refl
+    one.0 in
     let whole = append-nil earlier in
     let more = differ_between (folded_bytes name) earlier [] (subst Differ (sym whole) differ)
     (ap (has_name (folded_bytes name)) whole ∙ free) in

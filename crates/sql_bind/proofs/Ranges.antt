@@ -1,5 +1,6 @@
 -- Lists made over the numbers below a bound, with a number more.
-use Rattle.std.proofs.Common.{◌≡◌, ℕ, zero, suc, ◌+◌, Bool, true, false, cond, List, [], ◌∷◌, ◌++◌, map, flat_map}
+use Rattle.std.proofs.Common.{◌≡◌, ℕ, zero, suc, ◌+◌, Bool, true, false, cond, List, [], ◌∷◌, ◌++◌}
+use Rattle.std.proofs.Common.{map, flat_map}
 use Rattle.std.proofs.Common.{filter, refl, ap, sym, ◌∙◌, arith}
 use Rattle.std.specs.List.{range_with_len}
 use Rattle.std.proofs.lemmas.List.{append_assoc, append-nil}
@@ -43,7 +44,8 @@ joined_more f n start old new before pushed =
 pub kept_more : (keeps : ℕ → Bool) (n : ℕ)
     → filter keeps (range_with_len 0 (n + 1))
     ≡ filter keeps (range_with_len 0 n) ++ cond (keeps n) (n ∷ []) []
-kept_more keeps n = ap (filter keeps) (range_more n) ∙ filter-append keeps (range_with_len 0 n) (n ∷ [])
+kept_more keeps n = ap (filter keeps) (range_more n)
+    ∙ filter-append keeps (range_with_len 0 n) (n ∷ [])
 
 pub kept_yes : (keeps : ℕ → Bool) (n : ℕ) (old new : List ℕ)
     → old ≡ filter keeps (range_with_len 0 n) → keeps n ≡ true → new ≡ old ++ n ∷ []

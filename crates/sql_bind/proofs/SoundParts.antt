@@ -10,7 +10,8 @@ use Rattle.sql_meaning.specs.Items.{Item}
 use Rattle.sql_meaning.specs.Schemas as plain
 use Rattle.sql_meaning.specs.Statements.{table_of}
 use Rattle.sql_meaning.specs.Expressions.{BExpr, BExprs, Lit, Param, Column, Rowid, Plus, Collate}
-use Rattle.sql_meaning.specs.Expressions.{Cmp, OneOf, IsNull, Not, All, Any, Nil, More, flat, flat_all}
+use Rattle.sql_meaning.specs.Expressions.{Cmp, OneOf, IsNull, Not, All, Any, Nil, More, flat}
+use Rattle.sql_meaning.specs.Expressions.{flat_all}
 use Rattle.sql_meaning.specs.Values as value
 use Rattle.sql_meaning.proofs.Links.{all_at}
 use Rattle.sql_tree.specs.Trees.{Tree}

@@ -1,7 +1,8 @@
 -- The least entry of all places is the first of the table that fits somewhere.
 use Rattle.std.proofs.Common.{◌≡◌, ℕ, zero, suc, ◌+◌, ◌≤◌, ◌<◌, min, cond, Bool, true, false, ◌||◌}
 use Rattle.std.proofs.Common.{List, [], ◌∷◌, ◌++◌, Option, None, Some, map, length, drop, get_or}
-use Rattle.std.proofs.Common.{drop-cons, drop_of_length-le, add-one, refl, ap, sym, subst, ◌∙◌, arith}
+use Rattle.std.proofs.Common.{drop-cons, drop_of_length-le, add-one, refl, ap, sym, subst, ◌∙◌}
+use Rattle.std.proofs.Common.{arith}
 use Rattle.std.specs.Prelude.{slice_get}
 use Rattle.std.proofs.lemmas.List.{map-append, length-map}
 use Rattle.sql_tokens.specs.declared.terminal.Terminal.{Terminal}

@@ -1,10 +1,14 @@
 -- The stack in an array, and its levels.
-use Rattle.std.proofs.Common.{◌≡◌, ℕ, zero, suc, ◌+◌, ◌<◌, ◌≤◌, nat_lt, Bool, true, false, List, [], ◌∷◌, length, map, drop, drop-cons, get_or, slice_set, subst, refl, ap, sym, ◌∙◌, arith, add-one, get_or-set_same, get_or-set_other, drop_of_length-le}
+use Rattle.std.proofs.Common.{◌≡◌, ℕ, zero, suc, ◌+◌, ◌<◌, ◌≤◌, nat_lt, Bool, true, false, List, []}
+use Rattle.std.proofs.Common.{◌∷◌, length, map, drop, drop-cons, get_or, slice_set, subst, refl, ap}
+use Rattle.std.proofs.Common.{sym, ◌∙◌, arith, add-one, get_or-set_same, get_or-set_other}
+use Rattle.std.proofs.Common.{drop_of_length-le}
 use Rattle.std.proofs.lemmas.List.{length-map}
 use Rattle.sql_tokens.specs.Terminals.{terminal_of}
 use Rattle.sql_tokens.specs.declared.token.Token.{Token}
 use Rattle.sql_lex.specs.Depth.{depth_step_of, depth_steps}
-use Rattle.sql_lex.specs.Depth.{stack_of, total, next_levels, base_level, depth_from, AllCounted, IsBased}
+use Rattle.sql_lex.specs.Depth.{stack_of, total, next_levels, base_level, depth_from, AllCounted}
+use Rattle.sql_lex.specs.Depth.{IsBased}
 use Rattle.sql_lex.specs.declared.depth.DepthStep.{DepthStep}
 use Rattle.sql_lex.specs.declared.depth.DepthStep.TheVariants as step
 use Rattle.sql_lex.specs.declared.depth.Level.{Level}
@@ -46,14 +50,19 @@ some_next step.And (l ∷ ls) h = h
 some_next step.Reset (l ∷ ls) h = h
 some_next step.Other (l ∷ ls) h = h
 
-stack_set : (levels : List Level) (k n : ℕ) (v : Level) → n ≤ k → stack_of (slice_set levels k v) n ≡ stack_of levels n
+stack_set : (levels : List Level) (k n : ℕ) (v : Level) → n ≤ k
+    → stack_of (slice_set levels k v) n ≡ stack_of levels n
 stack_set levels k zero v le = refl
 stack_set levels k (suc n) v le =
-    ap (λ x. x ∷ stack_of (slice_set levels k v) n) (get_or-set_other levels k n v base_level (λ e. omega arith))
+    ap (λ x. x ∷ stack_of (slice_set levels k v) n)
+    (get_or-set_other levels k n v base_level (λ e. omega arith))
     ∙ ap (λ xs. get_or levels n base_level ∷ xs) (stack_set levels k n v (omega arith))
 
-pub stack_push : (levels : List Level) (n : ℕ) (v : Level) → n < length levels → stack_of (slice_set levels n v) (n + 1) ≡ v ∷ stack_of levels n
-stack_push levels n v lt = rw (add-one, get_or-set_same levels n v base_level lt, stack_set levels n n v (omega arith)) refl
+pub stack_push : (levels : List Level) (n : ℕ) (v : Level) → n < length levels
+    → stack_of (slice_set levels n v) (n + 1) ≡ v ∷ stack_of levels n
+stack_push levels n v lt =
+    rw (add-one, get_or-set_same levels n v base_level lt, stack_set levels n n v (omega arith))
+    refl
 
 pub ruleset stack_steps = (stack_push, length-stack)
 
@@ -61,17 +70,22 @@ pub base_based : IsBased (base_level ∷ [])
 unfolding IsBased
 base_based = tt
 
-pub below_counted : (ls mid rest : List Level) (top below : Level) → IsBased ls → ls ≡ top ∷ mid → mid ≡ below ∷ rest → 1 ≤ below.count
+pub below_counted : (ls mid rest : List Level) (top below : Level) → IsBased ls → ls ≡ top ∷ mid
+    → mid ≡ below ∷ rest → 1 ≤ below.count
 unfolding IsBased
 below_counted [] mid rest top below h e f = absurd (cc)
 below_counted (l ∷ []) mid rest top below h e f = absurd (cc)
-below_counted (l ∷ k ∷ ls) mid rest top below h e f = let same : k ≡ below = cc in subst (λ (q : Level). 1 ≤ q.count) same h.0
+below_counted (l ∷ k ∷ ls) mid rest top below h e f = let same : k ≡ below = cc in
+    subst (λ (q : Level). 1 ≤ q.count) same h.0
 
-deep_now : (ls : List Level) (m : DepthStep) (ms : List DepthStep) → 200 < total (next_levels m ls) → nat_lt 200 (depth_from ls (m ∷ ms)) ≡ true
+deep_now : (ls : List Level) (m : DepthStep) (ms : List DepthStep) → 200 < total (next_levels m ls)
+    → nat_lt 200 (depth_from ls (m ∷ ms)) ≡ true
 unfolding depth_from
 deep_now ls m ms h = grind arith
 
-deep_later : (ls : List Level) (m : DepthStep) (ms : List DepthStep) → total (next_levels m ls) ≤ 200 → nat_lt 200 (depth_from ls (m ∷ ms)) ≡ nat_lt 200 (depth_from (next_levels m ls) ms)
+deep_later : (ls : List Level) (m : DepthStep) (ms : List DepthStep)
+    → total (next_levels m ls) ≤ 200
+    → nat_lt 200 (depth_from ls (m ∷ ms)) ≡ nat_lt 200 (depth_from (next_levels m ls) ms)
 unfolding depth_from
 deep_later ls m ms h = grind arith
 

@@ -1,45 +1,92 @@
 -- The window and the stack.
-use Rattle.std.proofs.Common.{◌≡◌, ℕ, suc, ◌+◌, ◌-◌, ◌<◌, ◌≤◌, Bool, true, false, ◌||◌, List, [], ◌∷◌, length, drop, drop-cons, get_or, slice_set, refl, ap, sym, ◌∙◌, arith, add-one, get_or-set_same, get_or-set_other, drop_of_length-le}
+use Rattle.std.proofs.Common.{◌≡◌, ℕ, suc, ◌+◌, ◌-◌, ◌<◌, ◌≤◌, Bool, true, false, ◌||◌, List, []}
+use Rattle.std.proofs.Common.{◌∷◌, length, drop, drop-cons, get_or, slice_set, refl, ap, sym, ◌∙◌}
+use Rattle.std.proofs.Common.{arith, add-one, get_or-set_same, get_or-set_other, drop_of_length-le}
 use Rattle.sql_lex.specs.Rows.{State, next_state, finds, row_from, Kept, Follows}
 use Rattle.sql_lex.specs.declared.row_values.RowStep.{RowStep}
 use Rattle.sql_lex.specs.declared.row_values.RowStep.TheVariants as step
 use Rattle.sql_lex.specs.declared.row_values.Window.{Window}
 
-kept_set : (base k : ℕ) (known bs : List Bool) (v : Bool) → length bs ≤ base + k → Kept base known bs → Kept base (slice_set known k v) bs
+kept_set : (base k : ℕ) (known bs : List Bool) (v : Bool) → length bs ≤ base + k
+    → Kept base known bs → Kept base (slice_set known k v) bs
 kept_set base k known [] v le h = tt
-kept_set base k known (b ∷ bs) v le h = (λ lo hi. get_or-set_other known k (length bs - base) v false (λ e. omega arith) ∙ h.0 lo hi, kept_set base k known bs v (omega arith) h.1)
+kept_set base k known (b ∷ bs) v le h = (
+  λ lo hi. get_or-set_other known k (length bs - base) v false (λ e. omega arith) ∙ h.0 lo hi,
+  kept_set base k known bs v (omega arith) h.1,
+)
 
-pub opened_in : (w : Window) (s : State) → w.base ≤ w.depth → w.depth - w.base < length w.behind_in → Follows w s → Follows (record { base = w.base; behind_in = slice_set w.behind_in (w.depth - w.base) w.after_in; depth = w.depth + 1; after_in = false }) (next_state step.Open s)
+pub opened_in : (w : Window) (s : State) → w.base ≤ w.depth → w.depth - w.base < length w.behind_in
+    → Follows w s → Follows
+    (record {
+      base = w.base;
+      behind_in = slice_set w.behind_in (w.depth - w.base) w.after_in;
+      depth = w.depth + 1;
+      after_in = false;
+    }) (next_state step.Open s)
 opened_in w s lo hi f =
     let d = f.depth in
     record {
       depth = omega arith;
       after = refl;
-      kept = (λ l h. rw (← d) (get_or-set_same w.behind_in (w.depth - w.base) w.after_in false hi ∙ f.after), kept_set w.base (w.depth - w.base) w.behind_in s.stack w.after_in (omega arith) f.kept);
+      kept = (
+        λ l h. rw (← d)
+            (get_or-set_same w.behind_in (w.depth - w.base) w.after_in false hi ∙ f.after),
+        kept_set
+            w.base (w.depth - w.base) w.behind_in s.stack w.after_in (omega arith) f.kept,
+      );
     }
 
-pub opened_out : (w : Window) (s : State) → ¬ ((w.base ≤ w.depth) × (w.depth < w.base + 256)) → Follows w s → Follows (record { base = w.base; behind_in = w.behind_in; depth = w.depth + 1; after_in = false }) (next_state step.Open s)
+pub opened_out : (w : Window) (s : State) → ¬ ((w.base ≤ w.depth) × (w.depth < w.base + 256))
+    → Follows w s → Follows
+    (record { base = w.base; behind_in = w.behind_in; depth = w.depth + 1; after_in = false })
+    (next_state step.Open s)
 opened_out w s out f =
     let d = f.depth in
-    record { depth = omega arith; after = refl; kept = (λ l h. absurd (out (omega arith, omega arith)), f.kept) }
+    record {
+      depth = omega arith;
+      after = refl;
+      kept = (λ l h. absurd (out (omega arith, omega arith)), f.kept);
+    }
 
-pub closed_none : (w : Window) (s : State) → w.depth ≡ 0 → Follows w s → Follows (record { base = w.base; behind_in = w.behind_in; depth = w.depth; after_in = false }) (next_state step.Close s)
+pub closed_none : (w : Window) (s : State) → w.depth ≡ 0 → Follows w s
+    → Follows (record { base = w.base; behind_in = w.behind_in; depth = w.depth; after_in = false })
+    (next_state step.Close s)
 closed_none w s z f = at s.stack f.depth f.kept
   where
-    at : (bs : List Bool) → w.depth ≡ length bs → Kept w.base w.behind_in bs → Follows (record { base = w.base; behind_in = w.behind_in; depth = w.depth; after_in = false }) (next_state step.Close (record { stack = bs; after = s.after }))
+    at : (bs : List Bool) → w.depth ≡ length bs → Kept w.base w.behind_in bs
+        → Follows (record {
+          base = w.base;
+          behind_in = w.behind_in;
+          depth = w.depth;
+          after_in = false;
+        }) (next_state step.Close (record { stack = bs; after = s.after }))
     at [] d k = record { depth = d; after = refl; kept = tt }
     at (b ∷ bs) d k = absurd (omega arith)
 
-pub closed_some : (w : Window) (s : State) → 0 < w.depth → Follows w s → Follows (record { base = w.base; behind_in = w.behind_in; depth = w.depth - 1; after_in = false }) (next_state step.Close s)
+pub closed_some : (w : Window) (s : State) → 0 < w.depth → Follows w s
+    → Follows (record {
+      base = w.base;
+      behind_in = w.behind_in;
+      depth = w.depth - 1;
+      after_in = false;
+    }) (next_state step.Close s)
 closed_some w s z f = at s.stack f.depth f.kept
   where
-    at : (bs : List Bool) → w.depth ≡ length bs → Kept w.base w.behind_in bs → Follows (record { base = w.base; behind_in = w.behind_in; depth = w.depth - 1; after_in = false }) (next_state step.Close (record { stack = bs; after = s.after }))
+    at : (bs : List Bool) → w.depth ≡ length bs → Kept w.base w.behind_in bs
+        → Follows (record {
+          base = w.base;
+          behind_in = w.behind_in;
+          depth = w.depth - 1;
+          after_in = false;
+        }) (next_state step.Close (record { stack = bs; after = s.after }))
     at [] d k = absurd (omega arith)
     at (b ∷ bs) d k = record { depth = omega arith; after = refl; kept = k.1 }
 
-from_first : (base : ℕ) (s : State) (q : List RowStep) (m : RowStep) (ms : List RowStep) (v : Bool) → q ≡ m ∷ ms → finds base s m ≡ v → row_from base s q ≡ (v || row_from base (next_state m s) ms)
+from_first : (base : ℕ) (s : State) (q : List RowStep) (m : RowStep) (ms : List RowStep) (v : Bool)
+    → q ≡ m ∷ ms → finds base s m ≡ v → row_from base s q ≡ (v || row_from base (next_state m s) ms)
 unfolding row_from
-from_first base s q m ms v is e = ap (row_from base s) is ∙ ap (λ w. w || row_from base (next_state m s) ms) e
+from_first base s q m ms v is e =
+    ap (row_from base s) is ∙ ap (λ w. w || row_from base (next_state m s) ms) e
 
 -- the step at a place stands first behind it
 step_first :

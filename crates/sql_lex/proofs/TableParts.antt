@@ -45,7 +45,8 @@ unfolding early_tests
 early-is = refl
 
 -- a place's first early entry is one on statements
-pub at_statement : (p : Place) (n : ℕ) → n ≡ entry_at statement_tests p → n < 4 → n ≡ entry_at early_tests p
+pub at_statement : (p : Place) (n : ℕ) → n ≡ entry_at statement_tests p → n < 4
+    → n ≡ entry_at early_tests p
 at_statement p n is lt =
     is ∙ sym (ap (λ tests. entry_at tests p) early-is
     ∙ entry_at-front statement_tests _ p (omega (arith, length-statement)))
@@ -112,7 +113,8 @@ length-table : length table ≡ 37
 unfolding table
 length-table = refl
 
-entry_is : (n m count : ℕ) → m ≡ n → n < count → entry_numbered m count ≡ Some (record { entry = n + 1 })
+entry_is : (n m count : ℕ) → m ≡ n → n < count
+    → entry_numbered m count ≡ Some (record { entry = n + 1 })
 entry_is n m count e lt = rw e (grind (arith, nat_tests))
 
 no_entry : (n count : ℕ) → count ≤ n → entry_numbered n count ≡ None

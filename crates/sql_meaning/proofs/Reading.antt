@@ -296,7 +296,8 @@ chosen_parts : (b : Bool) (n most m : ℕ) → (if b && nat_le n most then Some 
     → (b ≡ true) × (n ≤ most) × (n ≡ m)
 chosen_parts b n most m e = grind arith
 
-pub upto_parts : (most n : ℕ) (ds : List ℕ) → digits_up_to most ds ≡ Some n → Digits ds n × (n ≤ most)
+pub upto_parts : (most n : ℕ) (ds : List ℕ) → digits_up_to most ds ≡ Some n
+    → Digits ds n × (n ≤ most)
 upto_parts most n [] e = absurd (cc)
 upto_parts most n (c ∷ cs) e =
     let p = chosen_parts (all_ascii_digits (c ∷ cs)) (digits_behind 0 (c ∷ cs)) most n e in

@@ -19,9 +19,11 @@ pub with_item_is_scope : (scope : Scope) (name : List ℕ) (item : Item) → IsS
 with_item_is_scope scope name item is free room table =
     let whole = append-nil scope.names in
     record {
-      named = rw (length_push scope.names name, length_push scope.items item) (omega (arith, is.named));
+      named = rw (length_push scope.names name, length_push scope.items item)
+          (omega (arith, is.named));
       few = rw (length_push scope.items item) (omega (arith, room));
-      tables = all_push (λ i. i.table < length scope.schema.tables) scope.items item is.tables table;
+      tables = all_push (λ i. i.table < length scope.schema.tables) scope.items item is.tables
+          table;
       differ = differ_between name scope.names [] (subst Differ (sym whole) is.differ)
           (ap (has_name name) whole ∙ free);
     }

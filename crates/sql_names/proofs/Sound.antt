@@ -35,7 +35,8 @@ wide : (schema : Schema) (item : Option Item) (table : Table) → table_of schem
     ≡ length table.columns
 wide schema None table h = absurd (cc)
 wide schema (Some item) table h =
-    rw (slice_get-map plain_table schema.tables item.table, h) (length-map table.columns plain_column)
+    rw (slice_get-map plain_table schema.tables item.table, h)
+    (length-map table.columns plain_column)
 
 there : (schema : Schema) (items : List Item) (number : ℕ) (item : Option Item) (table : Table)
     → slice_get items number ≡ item → table_of schema item ≡ Some table → number < length items

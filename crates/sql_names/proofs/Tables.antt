@@ -27,7 +27,8 @@ pub seen_item : (items : List BItem) (number : ℕ) (item : BItem)
     → slice_get (map item_of items) number ≡ Some (item_of item)
 seen_item items number item h = slice_get-map item_of items number ∙ ap (option_map item_of) h
 
-pub table_of_seen : (schema : Schema) (items : List BItem) (number : ℕ) (item : BItem) (table : Table)
+pub table_of_seen : (schema : Schema) (items : List BItem) (number : ℕ) (item : BItem)
+    (table : Table)
     → slice_get items number ≡ Some item → slice_get schema.tables item.table ≡ Some table
     → table_of schema (slice_get (map item_of items) number) ≡ Some table
 table_of_seen schema items number item table h k =

@@ -1,5 +1,7 @@
 -- What is read as an expression is spelled so.
-use Rattle.std.proofs.Common.{◌≡◌, ℕ, ℤ, suc, zero, Bool, true, false, ◌⊎◌, inl, inr, Option, None, Some, List, [], ◌∷◌, ◌++◌, length, refl, ap, sym, ◌∙◌, subst, append_assoc}
+use Rattle.std.proofs.Common.{◌≡◌, ℕ, ℤ, suc, zero, Bool, true, false, ◌⊎◌, inl, inr, Option, None}
+use Rattle.std.proofs.Common.{Some, List, [], ◌∷◌, ◌++◌, length, refl, ap, sym, ◌∙◌, subst}
+use Rattle.std.proofs.Common.{append_assoc}
 use Rattle.sql_meaning.specs.Values.{Value}
 use Rattle.sql_meaning.specs.Values as value
 use Rattle.sql_tree.specs.Trees.{Tree, trees}
@@ -14,14 +16,19 @@ use Rattle.sql_read.specs.Lexemes.{Lexeme}
 use Rattle.sql_read.specs.Lexemes as lexeme
 use Rattle.sql_read.specs.Reading.{◌>>=◌, after, name_at, Read, Reader, more_at, list_at}
 use Rattle.sql_read.specs.Leaves.{signed, number_at, named_at, leaf_at, collated_at}
-use Rattle.sql_read.specs.Expressions.{Below, joined, below, expr_at, and_at, not_at, test_at, tested_at, one_of_at, entries_at, between_at, right_at, operand_at, primary_at, enclosed_at, op_at, null_at, is_at, null_test_at, range_at, follow_at}
+use Rattle.sql_read.specs.Expressions.{Below, joined, below, expr_at, and_at, not_at, test_at}
+use Rattle.sql_read.specs.Expressions.{tested_at, one_of_at, entries_at, between_at, right_at}
+use Rattle.sql_read.specs.Expressions.{operand_at, primary_at, enclosed_at, op_at, null_at, is_at}
+use Rattle.sql_read.specs.Expressions.{null_test_at, range_at, follow_at}
 use Rattle.sql_parse.specs.Grammar.{Level, Spells, Members, IsOp, IsNullTest, IsNumber, perhaps_not}
 use Rattle.sql_parse.specs.Grammar as g
-use Rattle.sql_parse.proofs.Steps.{bind_ok, branch_ok, given_ok, after_ok, name_ok, Takes, IsSound, here, under, moved}
+use Rattle.sql_parse.proofs.Steps.{bind_ok, branch_ok, given_ok, after_ok, name_ok, Takes, IsSound}
+use Rattle.sql_parse.proofs.Steps.{here, under, moved}
 
 -- Marks behind the first operand of a test.
 
-op_took : {m : Mark} {p : Op} → IsOp m p → (ts q : List Lexeme) (o : Op) (r : List Lexeme) → after m ts ≡ Some q →
+op_took : {m : Mark} {p : Op} → IsOp m p → (ts q : List Lexeme) (o : Op) (r : List Lexeme)
+    → after m ts ≡ Some q →
     ◌≡◌ {A = Option (Op × List Lexeme)} (Some (p, q)) (Some (o, r)) →
     (k : Mark) × IsOp k o × (ts ≡ lexeme.Fixed k ∷ r)
 op_took {m} {p} is ts q o r next e =
@@ -55,7 +62,8 @@ op_ok ts o r e =
       ]
     ]
 
-null_ok : (neg : Bool) (ts : List Lexeme) (n : Bool) (r : List Lexeme) → null_at neg ts ≡ Some (n, r) →
+null_ok : (neg : Bool) (ts : List Lexeme) (n : Bool) (r : List Lexeme)
+    → null_at neg ts ≡ Some (n, r) →
     (neg ≡ n) × (ts ≡ lexeme.Fixed mark.Null ∷ r)
 unfolding null_at
 null_ok neg ts n r e =
@@ -69,7 +77,8 @@ null_ok neg ts n r e =
 abbrev TakesNullTest : List Lexeme → Bool → List Lexeme → Type 0
 TakesNullTest ts n r = Takes (λ ms neg. IsNullTest neg ms) ts n r
 
-is_ok : (ts q : List Lexeme) (n : Bool) (r : List Lexeme) → after mark.Is ts ≡ Some q → is_at q ≡ Some (n, r) →
+is_ok : (ts q : List Lexeme) (n : Bool) (r : List Lexeme) → after mark.Is ts ≡ Some q
+    → is_at q ≡ Some (n, r) →
     TakesNullTest ts n r
 unfolding is_at
 is_ok ts q n r next e =
@@ -78,38 +87,52 @@ is_ok ts q n r next e =
           let k = null_ok false q n r w.1 in (
             lexeme.Fixed mark.Is ∷ lexeme.Fixed mark.Null ∷ [],
             after_ok mark.Is ts q next ∙ ap (λ z. lexeme.Fixed mark.Is ∷ z) k.1,
-            subst (λ z. IsNullTest z (lexeme.Fixed mark.Is ∷ lexeme.Fixed mark.Null ∷ [])) k.0 g.is_null,
+            subst (λ z. IsNullTest z (lexeme.Fixed mark.Is ∷ lexeme.Fixed mark.Null ∷ [])) k.0
+                g.is_null,
           )
       | inr w ↦
           let k = null_ok true w.0 n r w.2 in
-          let ms : List Lexeme = lexeme.Fixed mark.Is ∷ lexeme.Fixed mark.Not ∷ lexeme.Fixed mark.Null ∷ [] in (
+          let ms : List Lexeme =
+          lexeme.Fixed mark.Is ∷ lexeme.Fixed mark.Not ∷ lexeme.Fixed mark.Null ∷ [] in (
             ms,
-            after_ok mark.Is ts q next ∙ ap (λ z. lexeme.Fixed mark.Is ∷ z) (after_ok mark.Not q w.0 w.1 ∙ ap (λ z. lexeme.Fixed mark.Not ∷ z) k.1),
+            after_ok mark.Is ts q next
+                ∙ ap (λ z. lexeme.Fixed mark.Is ∷ z)
+                (after_ok mark.Not q w.0 w.1 ∙ ap (λ z. lexeme.Fixed mark.Not ∷ z) k.1),
             subst (λ z. IsNullTest z ms) k.0 g.is_not_null,
           )
     ]
 
-null_test_ok : (ts : List Lexeme) (n : Bool) (r : List Lexeme) → null_test_at ts ≡ Some (n, r) → TakesNullTest ts n r
+null_test_ok : (ts : List Lexeme) (n : Bool) (r : List Lexeme) → null_test_at ts ≡ Some (n, r)
+    → TakesNullTest ts n r
 unfolding null_test_at
 null_test_ok ts n r e =
     elim (branch_ok (after mark.Isnull ts) _ _ _ e) [
       | inr w ↦
           let same = given_ok false n w.0 r w.2 in
-          let ms : List Lexeme = lexeme.Fixed mark.Isnull ∷ [] in
-          (ms, after_ok mark.Isnull ts w.0 w.1 ∙ ap (λ z. lexeme.Fixed mark.Isnull ∷ z) same.1, subst (λ z. IsNullTest z ms) same.0 g.isnull)
+          let ms : List Lexeme = lexeme.Fixed mark.Isnull ∷ [] in (
+            ms,
+            after_ok mark.Isnull ts w.0 w.1 ∙ ap (λ z. lexeme.Fixed mark.Isnull ∷ z) same.1,
+            subst (λ z. IsNullTest z ms) same.0 g.isnull,
+          )
       | inl w ↦ elim (branch_ok (after mark.Notnull ts) _ _ _ w.1) [
         | inr w ↦
             let same = given_ok true n w.0 r w.2 in
-            let ms : List Lexeme = lexeme.Fixed mark.Notnull ∷ [] in
-            (ms, after_ok mark.Notnull ts w.0 w.1 ∙ ap (λ z. lexeme.Fixed mark.Notnull ∷ z) same.1, subst (λ z. IsNullTest z ms) same.0 g.notnull)
+            let ms : List Lexeme = lexeme.Fixed mark.Notnull ∷ [] in (
+              ms,
+              after_ok mark.Notnull ts w.0 w.1 ∙ ap (λ z. lexeme.Fixed mark.Notnull ∷ z) same.1,
+              subst (λ z. IsNullTest z ms) same.0 g.notnull,
+            )
         | inl w ↦ elim (branch_ok (after mark.Is ts) _ _ _ w.1) [
           | inr w ↦ is_ok ts w.0 n r w.1 w.2
           | inl w ↦ elim (branch_ok (after mark.Not ts) _ _ _ w.1) [
             | inl w ↦ absurd (cc (w.1))
             | inr w ↦
                 let k = null_ok true w.0 n r w.2 in
-                let ms : List Lexeme = lexeme.Fixed mark.Not ∷ lexeme.Fixed mark.Null ∷ [] in
-                (ms, after_ok mark.Not ts w.0 w.1 ∙ ap (λ z. lexeme.Fixed mark.Not ∷ z) k.1, subst (λ z. IsNullTest z ms) k.0 g.not_null)
+                let ms : List Lexeme = lexeme.Fixed mark.Not ∷ lexeme.Fixed mark.Null ∷ [] in (
+                  ms,
+                  after_ok mark.Not ts w.0 w.1 ∙ ap (λ z. lexeme.Fixed mark.Not ∷ z) k.1,
+                  subst (λ z. IsNullTest z ms) k.0 g.not_null,
+                )
           ]
         ]
       ]
@@ -122,30 +145,42 @@ FollowMarks ms (follow.Null neg) = IsNullTest neg ms
 FollowMarks ms (follow.Between neg) = ms ≡ perhaps_not neg mark.Between
 FollowMarks ms (follow.OneOf neg) = ms ≡ perhaps_not neg mark.In
 
-range_ok : (neg : Bool) (ts : List Lexeme) (f : Follow) (r : List Lexeme) → range_at neg ts ≡ Some (f, r) →
-    ((f ≡ follow.Between neg) × (ts ≡ lexeme.Fixed mark.Between ∷ r)) ⊎ ((f ≡ follow.OneOf neg) × (ts ≡ lexeme.Fixed mark.In ∷ r))
+range_ok : (neg : Bool) (ts : List Lexeme) (f : Follow) (r : List Lexeme)
+    → range_at neg ts ≡ Some (f, r) →
+    ((f ≡ follow.Between neg) × (ts ≡ lexeme.Fixed mark.Between ∷ r))
+    ⊎ ((f ≡ follow.OneOf neg) × (ts ≡ lexeme.Fixed mark.In ∷ r))
 unfolding range_at
 range_ok neg ts f r e =
     elim (branch_ok (after mark.Between ts) _ _ _ e) [
       | inr w ↦
           let same = given_ok (follow.Between neg) f w.0 r w.2 in
-          inl (sym same.0, after_ok mark.Between ts w.0 w.1 ∙ ap (λ z. lexeme.Fixed mark.Between ∷ z) same.1)
+          inl (
+            sym same.0,
+            after_ok mark.Between ts w.0 w.1
+                ∙ ap (λ z. lexeme.Fixed mark.Between ∷ z) same.1,
+          )
       | inl w ↦ elim (branch_ok (after mark.In ts) _ _ _ w.1) [
         | inr w ↦
             let same = given_ok (follow.OneOf neg) f w.0 r w.2 in
-            inr (sym same.0, after_ok mark.In ts w.0 w.1 ∙ ap (λ z. lexeme.Fixed mark.In ∷ z) same.1)
+            inr (
+              sym same.0,
+              after_ok mark.In ts w.0 w.1
+                  ∙ ap (λ z. lexeme.Fixed mark.In ∷ z) same.1,
+            )
         | inl w ↦ absurd (cc (w.1))
       ]
     ]
 
-follow_ok : (ts : List Lexeme) (f : Follow) (r : List Lexeme) → follow_at ts ≡ Some (f, r) → Takes FollowMarks ts f r
+follow_ok : (ts : List Lexeme) (f : Follow) (r : List Lexeme) → follow_at ts ≡ Some (f, r)
+    → Takes FollowMarks ts f r
 unfolding follow_at
 follow_ok ts f r e =
     elim (branch_ok (op_at ts) _ _ _ e) [
       | inr w ↦
           let same = given_ok (follow.Cmp w.0.0) f w.0.1 r w.2 in
           let k = op_ok ts w.0.0 w.0.1 w.1 in
-          let t = here FollowMarks (lexeme.Fixed k.0 ∷ []) r w.0.1 f (follow.Cmp w.0.0) (k.0, k.1, refl) same in
+          let t = here FollowMarks (lexeme.Fixed k.0 ∷ []) r w.0.1 f (follow.Cmp w.0.0)
+          (k.0, k.1, refl) same in
           (t.0, k.2 ∙ t.1, t.2)
       | inl w ↦ elim (branch_ok (null_test_at ts) _ _ _ w.1) [
         | inr w ↦
@@ -175,14 +210,17 @@ follow_ok ts f r e =
 
 -- Lists of members, of any level.
 
-none_more : (l : Level) (m : Mark) (ts : List Lexeme) (x : Tree) (front : List Lexeme) (xs : List Tree)
-    (rest : List Lexeme) → Spells l front x → ◌≡◌ {A = Read (List Tree)} (Some ([], ts)) (Some (xs, rest)) →
+none_more : (l : Level) (m : Mark) (ts : List Lexeme) (x : Tree) (front : List Lexeme)
+    (xs : List Tree)
+    (rest : List Lexeme) → Spells l front x
+    → ◌≡◌ {A = Read (List Tree)} (Some ([], ts)) (Some (xs, rest)) →
     Takes (Members l m) (front ++ ts) (x ∷ xs) rest
 none_more l m ts x front xs rest first e =
     let is = given_ok [] xs ts rest e in
     (front, ap (λ r. front ++ r) is.1, subst (λ zs. Members l m front (x ∷ zs)) is.0 (g.last first))
 
-more_ok : (p : Reader Tree) (l : Level) (m : Mark) → IsSound (Spells l) p → (n : ℕ) (ts : List Lexeme) (x : Tree)
+more_ok : (p : Reader Tree) (l : Level) (m : Mark) → IsSound (Spells l) p
+    → (n : ℕ) (ts : List Lexeme) (x : Tree)
     (front : List Lexeme) (xs : List Tree) (rest : List Lexeme) → Spells l front x →
     more_at (after m) p n ts ≡ Some (xs, rest) → Takes (Members l m) (front ++ ts) (x ∷ xs) rest
 unfolding more_at
@@ -197,15 +235,19 @@ more_ok p l m sound (suc n) ts x front xs rest first e =
           let zs = d.0 in
           let t = sound w.0 y.0 y.1 b.1 in
           let ih = more_ok p l m sound n y.1 y.0 t.0 zs.0 zs.1 t.2 d.1 in
-          let is : ts ≡ lexeme.Fixed m ∷ (ih.0 ++ zs.1) = after_ok m ts w.0 w.1 ∙ ap (λ r. lexeme.Fixed m ∷ r) (t.1 ∙ ih.1) in
+          let is : ts ≡ lexeme.Fixed m ∷ (ih.0 ++ zs.1) =
+          after_ok m ts w.0 w.1 ∙ ap (λ r. lexeme.Fixed m ∷ r) (t.1 ∙ ih.1) in
           let end = given_ok (y.0 ∷ zs.0) xs zs.1 rest d.2 in (
             front ++ lexeme.Fixed m ∷ ih.0,
-            ap (λ r. front ++ r) is ∙ sym (append_assoc front (lexeme.Fixed m ∷ ih.0) zs.1) ∙ ap (λ r. (front ++ lexeme.Fixed m ∷ ih.0) ++ r) end.1,
-            subst (λ ys. Members l m (front ++ lexeme.Fixed m ∷ ih.0) (x ∷ ys)) end.0 (g.more first ih.2 refl),
+            ap (λ r. front ++ r) is ∙ sym (append_assoc front (lexeme.Fixed m ∷ ih.0) zs.1)
+                ∙ ap (λ r. (front ++ lexeme.Fixed m ∷ ih.0) ++ r) end.1,
+            subst (λ ys. Members l m (front ++ lexeme.Fixed m ∷ ih.0) (x ∷ ys)) end.0
+                (g.more first ih.2 refl),
           )
     ]
 
-list_ok : (p : Reader Tree) (l : Level) (m : Mark) → IsSound (Spells l) p → IsSound (Members l m) (list_at p (after m) p)
+list_ok : (p : Reader Tree) (l : Level) (m : Mark) → IsSound (Spells l) p
+    → IsSound (Members l m) (list_at p (after m) p)
 unfolding list_at
 list_ok p l m sound ts xs rest e =
     let b = bind_ok (p ts) _ _ e in
@@ -214,21 +256,27 @@ list_ok p l m sound ts xs rest e =
     let zs = d.0 in
     let t = sound ts y.0 y.1 b.1 in
     let all = more_ok p l m sound (length y.1) y.1 y.0 t.0 zs.0 zs.1 t.2 d.1 in
-    let end = given_ok (y.0 ∷ zs.0) xs zs.1 rest d.2 in
-    (all.0, t.1 ∙ all.1 ∙ ap (λ r. all.0 ++ r) end.1, subst (λ ys. Members l m all.0 ys) end.0 all.2)
+    let end = given_ok (y.0 ∷ zs.0) xs zs.1 rest d.2 in (
+      all.0,
+      t.1 ∙ all.1 ∙ ap (λ r. all.0 ++ r) end.1,
+      subst (λ ys. Members l m all.0 ys) end.0 all.2,
+    )
 
 -- Leaves.
 
-number_of : (neg : Bool) (n : ℕ) (make : ℤ → Value) (t : Lexeme) (ts : List Lexeme) (x : Tree) (rest : List Lexeme) →
+number_of : (neg : Bool) (n : ℕ) (make : ℤ → Value) (t : Lexeme) (ts : List Lexeme) (x : Tree)
+    (rest : List Lexeme) →
     ((z : ℤ) → signed neg n ≡ Some z → IsNumber neg t (make z)) →
-    ◌>>=◌ {B = Tree × List Lexeme} (signed neg n) (λ z. Some (tree.Lit (make z), ts)) ≡ Some (x, rest) →
+    ◌>>=◌ {B = Tree × List Lexeme} (signed neg n) (λ z. Some (tree.Lit (make z), ts))
+    ≡ Some (x, rest) →
     (v : Value) × (ts ≡ rest) × (tree.Lit v ≡ x) × IsNumber neg t v
 number_of neg n make t ts x rest is e =
     let d = bind_ok (signed neg n) _ _ e in
     let same = given_ok (tree.Lit (make d.0)) x ts rest d.2 in
     (make d.0, same.1, same.0, is d.0 d.1)
 
-pub number_ok : (neg : Bool) (ts : List Lexeme) (x : Tree) (rest : List Lexeme) → number_at neg ts ≡ Some (x, rest) →
+pub number_ok : (neg : Bool) (ts : List Lexeme) (x : Tree) (rest : List Lexeme)
+    → number_at neg ts ≡ Some (x, rest) →
     (t : Lexeme) × (v : Value) × (ts ≡ t ∷ rest) × (tree.Lit v ≡ x) × IsNumber neg t v
 unfolding number_at
 number_ok neg [] x rest e = cc
@@ -250,19 +298,25 @@ named_ok : (c : List ℕ) (d : Option Direction) (ts : List Lexeme) (x : Tree) (
 unfolding named_at
 named_ok c d ts x rest e =
     elim (branch_ok (after mark.Dot ts) _ _ _ e) [
-      | inl w ↦ here (Spells g.primary) (lexeme.Name c d ∷ []) rest ts x _ (g.column c d) (given_ok (tree.Name None c) x ts rest w.1)
+      | inl w ↦ here (Spells g.primary) (lexeme.Name c d ∷ []) rest ts x _ (g.column c d)
+          (given_ok (tree.Name None c) x ts rest w.1)
       | inr w ↦
           let n = bind_ok (name_at w.0) _ _ w.2 in
           let k = name_ok w.0 n.0.0 n.0.1 n.1 in
           let same = given_ok (tree.Name (Some c) n.0.0) x n.0.1 rest n.2 in
-          let front : List Lexeme = lexeme.Name c d ∷ lexeme.Fixed mark.Dot ∷ lexeme.Name n.0.0 k.0 ∷ [] in (
+          let front : List Lexeme =
+          lexeme.Name c d ∷ lexeme.Fixed mark.Dot ∷ lexeme.Name n.0.0 k.0 ∷ [] in (
             front,
-            ap (λ r. lexeme.Name c d ∷ r) (after_ok mark.Dot ts w.0 w.1 ∙ ap (λ r. lexeme.Fixed mark.Dot ∷ r) (k.1 ∙ ap (λ r. lexeme.Name n.0.0 k.0 ∷ r) same.1)),
+            ap (λ r. lexeme.Name c d ∷ r)
+                (after_ok mark.Dot ts w.0 w.1
+                ∙ ap (λ r. lexeme.Fixed mark.Dot ∷ r)
+                (k.1 ∙ ap (λ r. lexeme.Name n.0.0 k.0 ∷ r) same.1)),
             subst (λ t. Spells g.primary front t) same.0 (g.qualified c n.0.0 d k.0),
           )
     ]
 
-plain_number_ok : (ts : List Lexeme) (x : Tree) (rest : List Lexeme) → number_at false ts ≡ Some (x, rest) →
+plain_number_ok : (ts : List Lexeme) (x : Tree) (rest : List Lexeme)
+    → number_at false ts ≡ Some (x, rest) →
     Takes (Spells g.primary) ts x rest
 plain_number_ok ts x rest e =
     let k = number_ok false ts x rest e in
@@ -273,15 +327,23 @@ unfolding leaf_at
 leaf_ok [] x rest e = cc
 leaf_ok (lexeme.Fixed m ∷ ts) x rest e = cc
 leaf_ok (lexeme.Name c d ∷ ts) x rest e = named_ok c d ts x rest e
-leaf_ok (lexeme.Text bytes ∷ ts) x rest e = here (Spells g.primary) (lexeme.Text bytes ∷ []) rest ts x _ (g.text bytes) (given_ok (tree.Lit (value.Text bytes)) x ts rest e)
-leaf_ok (lexeme.Blob bytes ∷ ts) x rest e = here (Spells g.primary) (lexeme.Blob bytes ∷ []) rest ts x _ (g.blob bytes) (given_ok (tree.Lit (value.Blob bytes)) x ts rest e)
+leaf_ok (lexeme.Text bytes ∷ ts) x rest e =
+    here (Spells g.primary) (lexeme.Text bytes ∷ []) rest ts x _ (g.text bytes)
+    (given_ok (tree.Lit (value.Text bytes)) x ts rest e)
+leaf_ok (lexeme.Blob bytes ∷ ts) x rest e =
+    here (Spells g.primary) (lexeme.Blob bytes ∷ []) rest ts x _ (g.blob bytes)
+    (given_ok (tree.Lit (value.Blob bytes)) x ts rest e)
 leaf_ok (lexeme.Int n ∷ ts) x rest e = plain_number_ok (lexeme.Int n ∷ ts) x rest e
 leaf_ok (lexeme.Dec n ∷ ts) x rest e = plain_number_ok (lexeme.Dec n ∷ ts) x rest e
-leaf_ok (lexeme.Param n ∷ ts) x rest e = here (Spells g.primary) (lexeme.Param n ∷ []) rest ts x _ (g.param n) (given_ok (tree.Param n) x ts rest e)
+leaf_ok (lexeme.Param n ∷ ts) x rest e =
+    here (Spells g.primary) (lexeme.Param n ∷ []) rest ts x _ (g.param n)
+    (given_ok (tree.Param n) x ts rest e)
 leaf_ok (lexeme.Other ∷ ts) x rest e = cc
 
-collated_ok : (y : Tree) (front : List Lexeme) → Spells g.primary front y → (ts : List Lexeme) (x : Tree)
-    (rest : List Lexeme) → collated_at y ts ≡ Some (x, rest) → Takes (Spells g.operand) (front ++ ts) x rest
+collated_ok : (y : Tree) (front : List Lexeme) → Spells g.primary front y
+    → (ts : List Lexeme) (x : Tree)
+    (rest : List Lexeme) → collated_at y ts ≡ Some (x, rest)
+    → Takes (Spells g.operand) (front ++ ts) x rest
 unfolding collated_at
 collated_ok y front s ts x rest e =
     elim (branch_ok (after mark.Collate ts) _ _ _ e) [
@@ -291,7 +353,10 @@ collated_ok y front s ts x rest e =
           let k = name_ok w.0 n.0.0 n.0.1 n.1 in
           let same = given_ok (tree.Collate y n.0.0) x n.0.1 rest n.2 in
           let behind : List Lexeme = lexeme.Fixed mark.Collate ∷ lexeme.Name n.0.0 k.0 ∷ [] in
-          let whole : ts ≡ behind ++ rest = after_ok mark.Collate ts w.0 w.1 ∙ ap (λ r. lexeme.Fixed mark.Collate ∷ r) (k.1 ∙ ap (λ r. lexeme.Name n.0.0 k.0 ∷ r) same.1) in (
+          let whole : ts ≡ behind ++ rest =
+          after_ok mark.Collate ts w.0 w.1
+          ∙ ap (λ r. lexeme.Fixed mark.Collate ∷ r)
+          (k.1 ∙ ap (λ r. lexeme.Name n.0.0 k.0 ∷ r) same.1) in (
             front ++ behind,
             ap (λ r. front ++ r) whole ∙ sym (append_assoc front behind rest),
             subst (λ t. Spells g.operand (front ++ behind) t) same.0 (g.collated n.0.0 k.0 s refl),
@@ -307,7 +372,9 @@ enclosed_ok p ts x rest e =
       | inl w ↦ absurd (cc (w.1))
       | inr w ↦
           let is = given_ok b.0.0 x w.0 rest w.2 in
-          b.1 ∙ ap (λ q. Some (b.0.0, q)) (after_ok mark.Close b.0.1 w.0 w.1 ∙ ap (λ r. lexeme.Fixed mark.Close ∷ r) is.1) ∙ ap (λ y. Some (y, lexeme.Fixed mark.Close ∷ rest)) is.0
+          b.1 ∙ ap (λ q. Some (b.0.0, q))
+          (after_ok mark.Close b.0.1 w.0 w.1 ∙ ap (λ r. lexeme.Fixed mark.Close ∷ r) is.1)
+          ∙ ap (λ y. Some (y, lexeme.Fixed mark.Close ∷ rest)) is.0
     ]
 
 -- what is read a level deeper is spelled
@@ -322,19 +389,35 @@ module _ (b : Below) (sounds : Sounds b) where
   primary_ok ts x rest e =
       elim (branch_ok (after mark.Open ts) _ _ _ e) [
         | inr w ↦
-            let t = sounds.expr w.0 x (lexeme.Fixed mark.Close ∷ rest) (enclosed_ok b.expr w.0 x rest w.2) in
-            let front : List Lexeme = lexeme.Fixed mark.Open ∷ (t.0 ++ lexeme.Fixed mark.Close ∷ []) in
-            (front, after_ok mark.Open ts w.0 w.1 ∙ ap (λ r. lexeme.Fixed mark.Open ∷ r) (t.1 ∙ sym (append_assoc t.0 (lexeme.Fixed mark.Close ∷ []) rest)), g.enclosed t.2 refl)
+            let t = sounds.expr w.0 x (lexeme.Fixed mark.Close ∷ rest)
+            (enclosed_ok b.expr w.0 x rest w.2) in
+            let front : List Lexeme =
+            lexeme.Fixed mark.Open ∷ (t.0 ++ lexeme.Fixed mark.Close ∷ []) in (
+              front,
+              after_ok mark.Open ts w.0 w.1
+                  ∙ ap (λ r. lexeme.Fixed mark.Open ∷ r)
+                  (t.1 ∙ sym (append_assoc t.0 (lexeme.Fixed mark.Close ∷ []) rest)),
+              g.enclosed t.2
+                  refl,
+            )
         | inl w ↦ elim (branch_ok (after mark.Null ts) _ _ _ w.1) [
           | inr w ↦
-              let same = given_ok (tree.Lit value.Null) x w.0 rest w.2 in
-              (lexeme.Fixed mark.Null ∷ [], after_ok mark.Null ts w.0 w.1 ∙ ap (λ r. lexeme.Fixed mark.Null ∷ r) same.1, subst (λ t. Spells g.primary (lexeme.Fixed mark.Null ∷ []) t) same.0 g.null)
+              let same = given_ok (tree.Lit value.Null) x w.0 rest w.2 in (
+                lexeme.Fixed mark.Null ∷ [],
+                after_ok mark.Null ts w.0 w.1
+                    ∙ ap (λ r. lexeme.Fixed mark.Null ∷ r) same.1,
+                subst
+                    (λ t. Spells g.primary (lexeme.Fixed mark.Null ∷ []) t) same.0 g.null,
+              )
           | inl w ↦ elim (branch_ok (after mark.Minus ts) _ _ _ w.1) [
             | inl w ↦ leaf_ok ts x rest w.1
             | inr w ↦
                 let k = number_ok true w.0 x rest w.2 in
-                let front : List Lexeme = lexeme.Fixed mark.Minus ∷ k.0 ∷ [] in
-                (front, after_ok mark.Minus ts w.0 w.1 ∙ ap (λ r. lexeme.Fixed mark.Minus ∷ r) k.2, subst (λ t. Spells g.primary front t) k.3 (g.negative k.4))
+                let front : List Lexeme = lexeme.Fixed mark.Minus ∷ k.0 ∷ [] in (
+                  front,
+                  after_ok mark.Minus ts w.0 w.1 ∙ ap (λ r. lexeme.Fixed mark.Minus ∷ r) k.2,
+                  subst (λ t. Spells g.primary front t) k.3 (g.negative k.4),
+                )
           ]
         ]
       ]
@@ -351,13 +434,19 @@ module _ (b : Below) (sounds : Sounds b) where
             let d = bind_ok (b.operand w.0) _ _ w.2 in
             let is = given_ok (tree.Plus d.0.0) x d.0.1 rest d.2 in
             let t = sounds.operand w.0 d.0.0 d.0.1 d.1 in
-            let s = subst (λ y. Spells g.operand (lexeme.Fixed mark.Plus ∷ t.0) y) is.0 (g.plus t.2) in
-            (lexeme.Fixed mark.Plus ∷ t.0, after_ok mark.Plus ts w.0 w.1 ∙ ap (λ r. lexeme.Fixed mark.Plus ∷ r) (t.1 ∙ ap (λ r. t.0 ++ r) is.1), s)
+            let s = subst (λ y. Spells g.operand (lexeme.Fixed mark.Plus ∷ t.0) y) is.0 (g.plus t.2)
+            in (
+              lexeme.Fixed mark.Plus ∷ t.0,
+              after_ok mark.Plus ts w.0 w.1
+                  ∙ ap (λ r. lexeme.Fixed mark.Plus ∷ r) (t.1 ∙ ap (λ r. t.0 ++ r) is.1),
+              s,
+            )
       ]
 
   module _ (left : Tree) (front : List Lexeme) (s : Spells g.operand front left) where
     right_ok : (m : Mark) (o : Op) → IsOp m o → (r : List Lexeme) (x : Tree) (rest : List Lexeme) →
-        right_at b o left r ≡ Some (x, rest) → Takes (Spells g.test) (front ++ lexeme.Fixed m ∷ r) x rest
+        right_at b o left r ≡ Some (x, rest)
+        → Takes (Spells g.test) (front ++ lexeme.Fixed m ∷ r) x rest
     unfolding right_at
     right_ok m o op r x rest e =
         let d = bind_ok (operand_at b r) _ _ e in
@@ -365,12 +454,16 @@ module _ (b : Below) (sounds : Sounds b) where
         let t = operand_ok r d.0.0 d.0.1 d.1 in
         let whole : r ≡ t.0 ++ rest = t.1 ∙ ap (λ q. t.0 ++ q) is.1 in (
           front ++ lexeme.Fixed m ∷ t.0,
-          ap (λ q. front ++ lexeme.Fixed m ∷ q) whole ∙ sym (append_assoc front (lexeme.Fixed m ∷ t.0) rest),
-          subst (λ y. Spells g.test (front ++ lexeme.Fixed m ∷ t.0) y) is.0 (g.compared op s t.2 refl),
+          ap (λ q. front ++ lexeme.Fixed m ∷ q) whole
+              ∙ sym (append_assoc front (lexeme.Fixed m ∷ t.0) rest),
+          subst (λ y. Spells g.test (front ++ lexeme.Fixed m ∷ t.0) y) is.0
+              (g.compared op s t.2 refl),
         )
 
-    null_tested_ok : (neg : Bool) (ms : List Lexeme) → IsNullTest neg ms → (r : List Lexeme) (x : Tree) (rest : List Lexeme) →
-        ◌≡◌ {A = Read Tree} (Some (tree.IsNull neg left, r)) (Some (x, rest)) → Takes (Spells g.test) (front ++ (ms ++ r)) x rest
+    null_tested_ok : (neg : Bool) (ms : List Lexeme) → IsNullTest neg ms
+        → (r : List Lexeme) (x : Tree) (rest : List Lexeme) →
+        ◌≡◌ {A = Read Tree} (Some (tree.IsNull neg left, r)) (Some (x, rest))
+        → Takes (Spells g.test) (front ++ (ms ++ r)) x rest
     null_tested_ok neg ms test r x rest e =
         let is = given_ok (tree.IsNull neg left) x r rest e in (
           front ++ ms,
@@ -378,7 +471,8 @@ module _ (b : Below) (sounds : Sounds b) where
           subst (λ y. Spells g.test (front ++ ms) y) is.0 (g.null_tested test s refl),
         )
 
-    between_ok : (neg : Bool) (r : List Lexeme) (x : Tree) (rest : List Lexeme) → between_at b neg left r ≡ Some (x, rest) →
+    between_ok : (neg : Bool) (r : List Lexeme) (x : Tree) (rest : List Lexeme)
+        → between_at b neg left r ≡ Some (x, rest) →
         Takes (Spells g.test) (front ++ (perhaps_not neg mark.Between ++ r)) x rest
     unfolding between_at
     between_ok neg r x rest e =
@@ -391,13 +485,22 @@ module _ (b : Below) (sounds : Sounds b) where
               let low = operand_ok r d.0.0 d.0.1 d.1 in
               let high = operand_ok w.0 h.0.0 h.0.1 h.1 in
               let ms = perhaps_not neg mark.Between in
-              let inside : List Lexeme = front ++ (ms ++ (low.0 ++ lexeme.Fixed mark.And ∷ high.0)) in
-              let whole : r ≡ low.0 ++ lexeme.Fixed mark.And ∷ (high.0 ++ rest) = low.1 ∙ ap (λ q. low.0 ++ q) (after_ok mark.And d.0.1 w.0 w.1 ∙ ap (λ q. lexeme.Fixed mark.And ∷ q) (high.1 ∙ ap (λ q. high.0 ++ q) is.1)) in
-              let same : front ++ (ms ++ (low.0 ++ lexeme.Fixed mark.And ∷ (high.0 ++ rest))) ≡ inside ++ rest = simp append_assoc in
-              (inside, ap (λ q. front ++ (ms ++ q)) whole ∙ same, subst (λ y. Spells g.test inside y) is.0 (g.between neg s low.2 high.2 refl))
+              let inside : List Lexeme =
+              front ++ (ms ++ (low.0 ++ lexeme.Fixed mark.And ∷ high.0)) in
+              let whole : r ≡ low.0 ++ lexeme.Fixed mark.And ∷ (high.0 ++ rest) =
+              low.1 ∙ ap (λ q. low.0 ++ q)
+              (after_ok mark.And d.0.1 w.0 w.1
+              ∙ ap (λ q. lexeme.Fixed mark.And ∷ q) (high.1 ∙ ap (λ q. high.0 ++ q) is.1)) in
+              let same : front ++ (ms ++ (low.0 ++ lexeme.Fixed mark.And ∷ (high.0 ++ rest)))
+              ≡ inside ++ rest = simp append_assoc in (
+                inside,
+                ap (λ q. front ++ (ms ++ q)) whole ∙ same,
+                subst (λ y. Spells g.test inside y) is.0 (g.between neg s low.2 high.2 refl),
+              )
         ]
 
-    one_of_ok : (neg : Bool) (r : List Lexeme) (x : Tree) (rest : List Lexeme) → one_of_at b neg left r ≡ Some (x, rest) →
+    one_of_ok : (neg : Bool) (r : List Lexeme) (x : Tree) (rest : List Lexeme)
+        → one_of_at b neg left r ≡ Some (x, rest) →
         Takes (Spells g.test) (front ++ (perhaps_not neg mark.In ++ r)) x rest
     unfolding one_of_at entries_at
     one_of_ok neg r x rest e =
@@ -409,21 +512,48 @@ module _ (b : Below) (sounds : Sounds b) where
               let ms = perhaps_not neg mark.In in
               elim (branch_ok (after mark.Close w.0) _ _ _ d.1) [
                 | inl v ↦
-                    let t = list_ok b.expr g.expr mark.Comma sounds.expr w.0 d.0.0 (lexeme.Fixed mark.Close ∷ d.0.1) (enclosed_ok (list_at b.expr (after mark.Comma) b.expr) w.0 d.0.0 d.0.1 v.1) in
-                    let inside : List Lexeme = front ++ (ms ++ lexeme.Fixed mark.Open ∷ (t.0 ++ lexeme.Fixed mark.Close ∷ [])) in
-                    let whole : r ≡ lexeme.Fixed mark.Open ∷ (t.0 ++ lexeme.Fixed mark.Close ∷ rest) = after_ok mark.Open r w.0 w.1 ∙ ap (λ q. lexeme.Fixed mark.Open ∷ q) (t.1 ∙ ap (λ q. t.0 ++ lexeme.Fixed mark.Close ∷ q) is.1) in
-                    let same : front ++ (ms ++ lexeme.Fixed mark.Open ∷ (t.0 ++ lexeme.Fixed mark.Close ∷ rest)) ≡ inside ++ rest = simp append_assoc in
-                    (inside, ap (λ q. front ++ (ms ++ q)) whole ∙ same, subst (λ y. Spells g.test inside y) is.0 (g.in_some neg s t.2 refl))
+                    let t = list_ok b.expr g.expr mark.Comma sounds.expr w.0 d.0.0
+                    (lexeme.Fixed mark.Close ∷ d.0.1)
+                    (enclosed_ok (list_at b.expr (after mark.Comma) b.expr) w.0 d.0.0 d.0.1 v.1)
+                    in
+                    let inside : List Lexeme =
+                    front ++ (ms ++ lexeme.Fixed mark.Open ∷
+                    (t.0 ++ lexeme.Fixed mark.Close ∷ [])) in
+                    let whole : r ≡ lexeme.Fixed mark.Open ∷
+                    (t.0 ++ lexeme.Fixed mark.Close ∷ rest) =
+                    after_ok mark.Open r w.0 w.1
+                    ∙ ap (λ q. lexeme.Fixed mark.Open ∷ q)
+                    (t.1 ∙ ap (λ q. t.0 ++ lexeme.Fixed mark.Close ∷ q) is.1) in
+                    let same : front ++ (ms
+                    ++ lexeme.Fixed mark.Open ∷ (t.0 ++ lexeme.Fixed mark.Close ∷ rest))
+                    ≡ inside ++ rest = simp append_assoc in (
+                      inside,
+                      ap (λ q. front ++ (ms ++ q)) whole ∙ same,
+                      subst (λ y. Spells g.test inside y) is.0 (g.in_some neg s t.2 refl),
+                    )
                 | inr v ↦
                     let no = given_ok [] d.0.0 v.0 d.0.1 v.2 in
-                    let inside : List Lexeme = front ++ (ms ++ lexeme.Fixed mark.Open ∷ lexeme.Fixed mark.Close ∷ []) in
-                    let whole : r ≡ lexeme.Fixed mark.Open ∷ lexeme.Fixed mark.Close ∷ rest = after_ok mark.Open r w.0 w.1 ∙ ap (λ q. lexeme.Fixed mark.Open ∷ q) (after_ok mark.Close w.0 v.0 v.1 ∙ ap (λ q. lexeme.Fixed mark.Close ∷ q) (no.1 ∙ is.1)) in
-                    let same : front ++ (ms ++ lexeme.Fixed mark.Open ∷ lexeme.Fixed mark.Close ∷ rest) ≡ inside ++ rest = simp append_assoc in
-                    (inside, ap (λ q. front ++ (ms ++ q)) whole ∙ same, subst (λ y. Spells g.test inside y) (ap (λ ys. tree.OneOf neg left (trees ys)) no.0 ∙ is.0) (g.in_none neg s refl))
+                    let inside : List Lexeme =
+                    front ++ (ms ++ lexeme.Fixed mark.Open ∷ lexeme.Fixed mark.Close ∷ []) in
+                    let whole : r ≡ lexeme.Fixed mark.Open ∷ lexeme.Fixed mark.Close ∷ rest =
+                    after_ok mark.Open r w.0 w.1
+                    ∙ ap (λ q. lexeme.Fixed mark.Open ∷ q)
+                    (after_ok mark.Close w.0 v.0 v.1
+                    ∙ ap (λ q. lexeme.Fixed mark.Close ∷ q) (no.1 ∙ is.1)) in
+                    let same : front ++ (ms
+                    ++ lexeme.Fixed mark.Open ∷ lexeme.Fixed mark.Close ∷ rest)
+                    ≡ inside ++ rest = simp append_assoc in (
+                      inside,
+                      ap (λ q. front ++ (ms ++ q)) whole ∙ same,
+                      subst (λ y. Spells g.test inside y)
+                          (ap (λ ys. tree.OneOf neg left (trees ys)) no.0 ∙ is.0)
+                          (g.in_none neg s refl),
+                    )
               ]
         ]
 
-    tested_ok : (f : Follow) (ms r : List Lexeme) → FollowMarks ms f → (x : Tree) (rest : List Lexeme) →
+    tested_ok : (f : Follow) (ms r : List Lexeme) → FollowMarks ms f
+        → (x : Tree) (rest : List Lexeme) →
         tested_at b left f r ≡ Some (x, rest) → Takes (Spells g.test) (front ++ (ms ++ r)) x rest
     unfolding tested_at
     tested_ok (follow.Cmp o) ms r k x rest e = rw k.2 (right_ok k.0 o k.1 r x rest e)
@@ -437,23 +567,32 @@ module _ (b : Below) (sounds : Sounds b) where
       let d = bind_ok (operand_at b ts) _ _ e in
       let t = operand_ok ts d.0.0 d.0.1 d.1 in
       elim (branch_ok (follow_at d.0.1) _ _ _ d.2) [
-        | inl w ↦ moved (Spells g.test) ts (t.0 ++ d.0.1) rest x t.1 (here (Spells g.test) t.0 rest d.0.1 x d.0.0 (g.bare t.2) (given_ok d.0.0 x d.0.1 rest w.1))
+        | inl w ↦ moved (Spells g.test) ts (t.0 ++ d.0.1) rest x t.1
+            (here (Spells g.test) t.0 rest d.0.1 x d.0.0 (g.bare t.2)
+            (given_ok d.0.0 x d.0.1 rest w.1))
         | inr w ↦
             let k = follow_ok d.0.1 w.0.0 w.0.1 w.1 in
-            moved (Spells g.test) ts (t.0 ++ (k.0 ++ w.0.1)) rest x (t.1 ∙ ap (λ q. t.0 ++ q) k.1) (tested_ok d.0.0 t.0 t.2 w.0.0 k.0 w.0.1 k.2 x rest w.2)
+            moved (Spells g.test) ts (t.0 ++ (k.0 ++ w.0.1)) rest x (t.1 ∙ ap (λ q. t.0 ++ q) k.1)
+            (tested_ok d.0.0 t.0 t.2 w.0.0 k.0 w.0.1 k.2 x rest w.2)
       ]
 
   not_ok : IsSound (Spells g.not) (not_at b)
   unfolding not_at
   not_ok ts x rest e =
       elim (branch_ok (after mark.Not ts) _ _ _ e) [
-        | inl w ↦ under (Spells g.test) (Spells g.not) ts rest x x (λ fs s. g.tested s) (test_ok ts x rest w.1)
+        | inl w ↦ under (Spells g.test) (Spells g.not) ts rest x x (λ fs s. g.tested s)
+            (test_ok ts x rest w.1)
         | inr w ↦
             let d = bind_ok (b.not w.0) _ _ w.2 in
             let is = given_ok (tree.Not d.0.0) x d.0.1 rest d.2 in
             let t = sounds.not w.0 d.0.0 d.0.1 d.1 in
-            let s = subst (λ y. Spells g.not (lexeme.Fixed mark.Not ∷ t.0) y) is.0 (g.negated t.2) in
-            (lexeme.Fixed mark.Not ∷ t.0, after_ok mark.Not ts w.0 w.1 ∙ ap (λ r. lexeme.Fixed mark.Not ∷ r) (t.1 ∙ ap (λ r. t.0 ++ r) is.1), s)
+            let s = subst (λ y. Spells g.not (lexeme.Fixed mark.Not ∷ t.0) y) is.0 (g.negated t.2)
+            in (
+              lexeme.Fixed mark.Not ∷ t.0,
+              after_ok mark.Not ts w.0 w.1
+                  ∙ ap (λ r. lexeme.Fixed mark.Not ∷ r) (t.1 ∙ ap (λ r. t.0 ++ r) is.1),
+              s,
+            )
       ]
 
   and_ok : IsSound (Spells g.and) (and_at b)
@@ -474,8 +613,16 @@ module _ (b : Below) (sounds : Sounds b) where
 
 below_ok : (n : ℕ) → Sounds (below n)
 unfolding below
-below_ok zero = record { expr = λ ts x rest e. absurd (cc (e)); not = λ ts x rest e. absurd (cc (e)); operand = λ ts x rest e. absurd (cc (e)) }
-below_ok (suc n) = record { expr = expr_ok (below n) (below_ok n); not = not_ok (below n) (below_ok n); operand = operand_ok (below n) (below_ok n) }
+below_ok zero = record {
+  expr = λ ts x rest e. absurd (cc (e));
+  not = λ ts x rest e. absurd (cc (e));
+  operand = λ ts x rest e. absurd (cc (e));
+}
+below_ok (suc n) = record {
+  expr = expr_ok (below n) (below_ok n);
+  not = not_ok (below n) (below_ok n);
+  operand = operand_ok (below n) (below_ok n);
+}
 
 -- what is read is spelled
 pub expressions_sound : (n : ℕ) → IsSound (Spells g.expr) (expr_at (below n))

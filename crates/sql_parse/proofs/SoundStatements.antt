@@ -1,7 +1,9 @@
 -- What is read as a statement is spelled so.
-use Rattle.std.proofs.Common.{◌≡◌, ℕ, ℤ, suc, zero, Bool, true, false, inl, inr, Option, None, Some, List, [], ◌∷◌, ◌++◌, length, refl, ap, sym, ◌∙◌, subst, append_assoc}
+use Rattle.std.proofs.Common.{◌≡◌, ℕ, ℤ, suc, zero, Bool, true, false, inl, inr, Option, None, Some}
+use Rattle.std.proofs.Common.{List, [], ◌∷◌, ◌++◌, length, refl, ap, sym, ◌∙◌, subst, append_assoc}
 use Rattle.sql_tree.specs.Trees.{Tree}
-use Rattle.sql_tree.specs.Statements.{SourceTree, ItemTree, KeyTree, SelectTree, UpdateTree, DeleteTree, StatementTree}
+use Rattle.sql_tree.specs.Statements.{SourceTree, ItemTree, KeyTree, SelectTree, UpdateTree}
+use Rattle.sql_tree.specs.Statements.{DeleteTree, StatementTree}
 use Rattle.sql_tree.specs.Statements as statement
 use Rattle.sql_tree.specs.declared.statement.Cut.{Cut}
 use Rattle.sql_tree.specs.declared.statement.Cut.TheVariants as cut
@@ -13,26 +15,41 @@ use Rattle.sql_read.specs.Lexemes.{Lexeme}
 use Rattle.sql_read.specs.Lexemes as lexeme
 use Rattle.sql_read.specs.Reading.{◌>>=◌, after, name_at, Read, Reader, more_at, list_at}
 use Rattle.sql_read.specs.Leaves.{signed}
-use Rattle.sql_read.specs.Parts.{Cuts, optional_at, label_at, alias_at, table_star_at, value_item_at, item_at, source_named, source_at, joined_source_at, join_at, join_begins, direction_at, key_by, key_at, keys_at, count_at, param_at, cut_at, second_cut_at, cuts_at, set_to, set_at}
-use Rattle.sql_read.specs.Statements.{items_at, sources_at, sets_at, select_of, update_of, delete_of, from_at, past_all, select_at, update_at, delete_at, statement_at}
+use Rattle.sql_read.specs.Parts.{Cuts, optional_at, label_at, alias_at, table_star_at}
+use Rattle.sql_read.specs.Parts.{value_item_at, item_at, source_named, source_at, joined_source_at}
+use Rattle.sql_read.specs.Parts.{join_at, join_begins, direction_at, key_by, key_at, keys_at}
+use Rattle.sql_read.specs.Parts.{count_at, param_at, cut_at, second_cut_at, cuts_at, set_to, set_at}
+use Rattle.sql_read.specs.Statements.{items_at, sources_at, sets_at, select_of, update_of}
+use Rattle.sql_read.specs.Statements.{delete_of, from_at, past_all, select_at, update_at, delete_at}
+use Rattle.sql_read.specs.Statements.{statement_at}
 use Rattle.sql_parse.specs.Grammar.{Spells}
 use Rattle.sql_parse.specs.Grammar as g
-use Rattle.sql_parse.specs.Statements.{Listed, Condition, Label, Alias, Result, Table, on_condition, Joined, Join, Joins, Sources, Directed, SortKey, SortKeys, Count, Limits, Setting, PerhapsAll, IsSpelled}
+use Rattle.sql_parse.specs.Statements.{Listed, Condition, Label, Alias, Result, Table, on_condition}
+use Rattle.sql_parse.specs.Statements.{Joined, Join, Joins, Sources, Directed, SortKey, SortKeys}
+use Rattle.sql_parse.specs.Statements.{Count, Limits, Setting, PerhapsAll, IsSpelled}
 use Rattle.sql_parse.specs.Statements as s
-use Rattle.sql_parse.proofs.Steps.{bind_ok, branch_ok, given_ok, after_ok, name_ok, Takes, IsSound, here, moved}
+use Rattle.sql_parse.proofs.Steps.{bind_ok, branch_ok, given_ok, after_ok, name_ok, Takes, IsSound}
+use Rattle.sql_parse.proofs.Steps.{here, moved}
 
 -- Names and aliases.
 
-label_ok : (texts : Bool) (ts : List Lexeme) (b : List ℕ) (r : List Lexeme) → label_at texts ts ≡ Some (b, r) →
+label_ok : (texts : Bool) (ts : List Lexeme) (b : List ℕ) (r : List Lexeme)
+    → label_at texts ts ≡ Some (b, r) →
     (t : Lexeme) × (ts ≡ t ∷ r) × Label texts t b
 unfolding label_at
 label_ok texts [] b r e = cc
 label_ok texts (lexeme.Name bytes d ∷ ts) b r e =
-    let same = given_ok bytes b ts r e in
-    (lexeme.Name bytes d, ap (λ q. lexeme.Name bytes d ∷ q) same.1, subst (λ z. Label texts (lexeme.Name bytes d) z) same.0 (s.named bytes d))
+    let same = given_ok bytes b ts r e in (
+      lexeme.Name bytes d,
+      ap (λ q. lexeme.Name bytes d ∷ q) same.1,
+      subst (λ z. Label texts (lexeme.Name bytes d) z) same.0 (s.named bytes d),
+    )
 label_ok true (lexeme.Text bytes ∷ ts) b r e =
-    let same = given_ok bytes b ts r e in
-    (lexeme.Text bytes, ap (λ q. lexeme.Text bytes ∷ q) same.1, subst (λ z. Label true (lexeme.Text bytes) z) same.0 (s.text bytes))
+    let same = given_ok bytes b ts r e in (
+      lexeme.Text bytes,
+      ap (λ q. lexeme.Text bytes ∷ q) same.1,
+      subst (λ z. Label true (lexeme.Text bytes) z) same.0 (s.text bytes),
+    )
 label_ok false (lexeme.Text bytes ∷ ts) b r e = cc
 label_ok texts (lexeme.Fixed m ∷ ts) b r e = cc
 label_ok texts (lexeme.Blob bytes ∷ ts) b r e = cc
@@ -49,19 +66,28 @@ alias_ok texts ts x rest e =
         | inl w ↦ here (Alias texts) [] rest ts x None s.none (given_ok None x ts rest w.1)
         | inr w ↦
             let k = label_ok texts ts w.0.0 w.0.1 w.1 in
-            let same = given_ok (Some w.0.0) x w.0.1 rest w.2 in
-            (k.0 ∷ [], k.1 ∙ ap (λ q. k.0 ∷ q) same.1, subst (λ z. Alias texts (k.0 ∷ []) z) same.0 (s.bare k.2))
+            let same = given_ok (Some w.0.0) x w.0.1 rest w.2 in (
+              k.0 ∷ [],
+              k.1 ∙ ap (λ q. k.0 ∷ q) same.1,
+              subst (λ z. Alias texts (k.0 ∷ []) z) same.0 (s.bare k.2),
+            )
       ]
       | inr w ↦
           let d = bind_ok (label_at texts w.0) _ _ w.2 in
           let k = label_ok texts w.0 d.0.0 d.0.1 d.1 in
           let same = given_ok (Some d.0.0) x d.0.1 rest d.2 in
-          let front : List Lexeme = lexeme.Fixed mark.As ∷ k.0 ∷ [] in
-          (front, after_ok mark.As ts w.0 w.1 ∙ ap (λ q. lexeme.Fixed mark.As ∷ q) (k.1 ∙ ap (λ q. k.0 ∷ q) same.1), subst (λ z. Alias texts front z) same.0 (s.behind_as k.2))
+          let front : List Lexeme = lexeme.Fixed mark.As ∷ k.0 ∷ [] in (
+            front,
+            after_ok mark.As ts w.0 w.1
+                ∙ ap (λ q. lexeme.Fixed mark.As ∷ q) (k.1 ∙ ap (λ q. k.0 ∷ q) same.1),
+            subst
+                (λ z. Alias texts front z) same.0 (s.behind_as k.2),
+          )
     ]
 
 table_star_ok : (ts : List Lexeme) (t : List ℕ) (r : List Lexeme) → table_star_at ts ≡ Some (t, r) →
-    (d : Option Direction) × (ts ≡ lexeme.Name t d ∷ lexeme.Fixed mark.Dot ∷ lexeme.Fixed mark.Star ∷ r)
+    (d : Option Direction)
+    × (ts ≡ lexeme.Name t d ∷ lexeme.Fixed mark.Dot ∷ lexeme.Fixed mark.Star ∷ r)
 unfolding table_star_at
 table_star_ok ts t r e =
     let n = bind_ok (name_at ts) _ _ e in
@@ -72,8 +98,14 @@ table_star_ok ts t r e =
         | inl v ↦ absurd (cc (v.1))
         | inr v ↦
             let same = given_ok n.0.0 t v.0 r v.2 in
-            let behind = after_ok mark.Dot n.0.1 w.0 w.1 ∙ ap (λ q. lexeme.Fixed mark.Dot ∷ q) (after_ok mark.Star w.0 v.0 v.1 ∙ ap (λ q. lexeme.Fixed mark.Star ∷ q) same.1) in
-            (k.0, k.1 ∙ ap (λ q. lexeme.Name n.0.0 k.0 ∷ q) behind ∙ ap (λ z. lexeme.Name z k.0 ∷ lexeme.Fixed mark.Dot ∷ lexeme.Fixed mark.Star ∷ r) same.0)
+            let behind = after_ok mark.Dot n.0.1 w.0 w.1
+            ∙ ap (λ q. lexeme.Fixed mark.Dot ∷ q)
+            (after_ok mark.Star w.0 v.0 v.1 ∙ ap (λ q. lexeme.Fixed mark.Star ∷ q) same.1) in (
+              k.0,
+              k.1 ∙ ap (λ q. lexeme.Name n.0.0 k.0 ∷ q) behind
+                  ∙ ap (λ z. lexeme.Name z k.0 ∷ lexeme.Fixed mark.Dot ∷ lexeme.Fixed mark.Star ∷ r)
+                  same.0,
+            )
       ]
     ]
 
@@ -85,21 +117,27 @@ table_ok cross ts x rest e =
     let d = bind_ok (alias_at false n.0.1) _ _ n.2 in
     let a = alias_ok false n.0.1 d.0.0 d.0.1 d.1 in
     let same = given_ok (source_named n.0.0 d.0.0 cross None) x d.0.1 rest d.2 in
-    let front : List Lexeme = lexeme.Name n.0.0 k.0 ∷ a.0 in
-    (front, k.1 ∙ ap (λ q. lexeme.Name n.0.0 k.0 ∷ q) (a.1 ∙ ap (λ q. a.0 ++ q) same.1), subst (λ z. Table cross front z) same.0 (s.table n.0.0 k.0 a.2))
+    let front : List Lexeme = lexeme.Name n.0.0 k.0 ∷ a.0 in (
+      front,
+      k.1 ∙ ap (λ q. lexeme.Name n.0.0 k.0 ∷ q) (a.1 ∙ ap (λ q. a.0 ++ q) same.1),
+      subst (λ z. Table cross front z) same.0 (s.table n.0.0 k.0 a.2),
+    )
 
 -- Lists with commas.
 
-none_more : {A : Type 0} (R : List Lexeme → A → Type 0) (ts : List Lexeme) (x : A) (front : List Lexeme) (xs : List A)
+none_more : {A : Type 0} (R : List Lexeme → A → Type 0) (ts : List Lexeme) (x : A)
+    (front : List Lexeme) (xs : List A)
     (rest : List Lexeme) → R front x → ◌≡◌ {A = Read (List A)} (Some ([], ts)) (Some (xs, rest)) →
     Takes (Listed R) (front ++ ts) (x ∷ xs) rest
 none_more R ts x front xs rest first e =
     let is = given_ok [] xs ts rest e in
     (front, ap (λ r. front ++ r) is.1, subst (λ zs. Listed R front (x ∷ zs)) is.0 (s.last first))
 
-more_ok : {A : Type 0} (R : List Lexeme → A → Type 0) (p : Reader A) → IsSound R p → (n : ℕ) (ts : List Lexeme) (x : A)
+more_ok : {A : Type 0} (R : List Lexeme → A → Type 0) (p : Reader A) → IsSound R p
+    → (n : ℕ) (ts : List Lexeme) (x : A)
     (front : List Lexeme) (xs : List A) (rest : List Lexeme) → R front x →
-    more_at (after mark.Comma) p n ts ≡ Some (xs, rest) → Takes (Listed R) (front ++ ts) (x ∷ xs) rest
+    more_at (after mark.Comma) p n ts ≡ Some (xs, rest)
+    → Takes (Listed R) (front ++ ts) (x ∷ xs) rest
 unfolding more_at
 more_ok R p sound zero ts x front xs rest first e = none_more R ts x front xs rest first e
 more_ok R p sound (suc n) ts x front xs rest first e =
@@ -112,15 +150,19 @@ more_ok R p sound (suc n) ts x front xs rest first e =
           let zs = d.0 in
           let t = sound w.0 y.0 y.1 b.1 in
           let ih = more_ok R p sound n y.1 y.0 t.0 zs.0 zs.1 t.2 d.1 in
-          let is : ts ≡ lexeme.Fixed mark.Comma ∷ (ih.0 ++ zs.1) = after_ok mark.Comma ts w.0 w.1 ∙ ap (λ r. lexeme.Fixed mark.Comma ∷ r) (t.1 ∙ ih.1) in
+          let is : ts ≡ lexeme.Fixed mark.Comma ∷ (ih.0 ++ zs.1) =
+          after_ok mark.Comma ts w.0 w.1 ∙ ap (λ r. lexeme.Fixed mark.Comma ∷ r) (t.1 ∙ ih.1) in
           let end = given_ok (y.0 ∷ zs.0) xs zs.1 rest d.2 in (
             front ++ lexeme.Fixed mark.Comma ∷ ih.0,
-            ap (λ r. front ++ r) is ∙ sym (append_assoc front (lexeme.Fixed mark.Comma ∷ ih.0) zs.1) ∙ ap (λ r. (front ++ lexeme.Fixed mark.Comma ∷ ih.0) ++ r) end.1,
-            subst (λ ys. Listed R (front ++ lexeme.Fixed mark.Comma ∷ ih.0) (x ∷ ys)) end.0 (s.more first ih.2 refl),
+            ap (λ r. front ++ r) is ∙ sym (append_assoc front (lexeme.Fixed mark.Comma ∷ ih.0) zs.1)
+                ∙ ap (λ r. (front ++ lexeme.Fixed mark.Comma ∷ ih.0) ++ r) end.1,
+            subst (λ ys. Listed R (front ++ lexeme.Fixed mark.Comma ∷ ih.0) (x ∷ ys)) end.0
+                (s.more first ih.2 refl),
           )
     ]
 
-listed_ok : {A : Type 0} (R : List Lexeme → A → Type 0) (p : Reader A) → IsSound R p → IsSound (Listed R) (list_at p (after mark.Comma) p)
+listed_ok : {A : Type 0} (R : List Lexeme → A → Type 0) (p : Reader A) → IsSound R p
+    → IsSound (Listed R) (list_at p (after mark.Comma) p)
 unfolding list_at
 listed_ok R p sound ts xs rest e =
     let b = bind_ok (p ts) _ _ e in
@@ -134,7 +176,8 @@ listed_ok R p sound ts xs rest e =
 
 -- LIMIT and OFFSET.
 
-count_ok : (neg : Bool) (ts : List Lexeme) (c : Cut) (r : List Lexeme) → count_at neg ts ≡ Some (c, r) →
+count_ok : (neg : Bool) (ts : List Lexeme) (c : Cut) (r : List Lexeme)
+    → count_at neg ts ≡ Some (c, r) →
     (n : ℕ) × (z : ℤ) × (signed neg n ≡ Some z) × (ts ≡ lexeme.Int n ∷ r) × (cut.Count z ≡ c)
 unfolding count_at
 count_ok neg [] c r e = cc
@@ -150,7 +193,8 @@ count_ok neg (lexeme.Dec n ∷ ts) c r e = cc
 count_ok neg (lexeme.Param n ∷ ts) c r e = cc
 count_ok neg (lexeme.Other ∷ ts) c r e = cc
 
-param_ok : (ts : List Lexeme) (n : ℕ) (r : List Lexeme) → param_at ts ≡ Some (n, r) → ts ≡ lexeme.Param n ∷ r
+param_ok : (ts : List Lexeme) (n : ℕ) (r : List Lexeme) → param_at ts ≡ Some (n, r)
+    → ts ≡ lexeme.Param n ∷ r
 unfolding param_at
 param_ok [] n r e = cc
 param_ok (lexeme.Param k ∷ ts) n r e =
@@ -170,13 +214,19 @@ cut_ok ts x rest e =
     elim (branch_ok (after mark.Minus ts) _ _ _ e) [
       | inr w ↦
           let k = count_ok true w.0 x rest w.2 in
-          let front : List Lexeme = lexeme.Fixed mark.Minus ∷ lexeme.Int k.0 ∷ [] in
-          (front, after_ok mark.Minus ts w.0 w.1 ∙ ap (λ q. lexeme.Fixed mark.Minus ∷ q) k.3, subst (λ z. Count front z) k.4 (s.negative k.2))
+          let front : List Lexeme = lexeme.Fixed mark.Minus ∷ lexeme.Int k.0 ∷ [] in (
+            front,
+            after_ok mark.Minus ts w.0 w.1 ∙ ap (λ q. lexeme.Fixed mark.Minus ∷ q) k.3,
+            subst (λ z. Count front z) k.4 (s.negative k.2),
+          )
       | inl w ↦ elim (branch_ok (param_at ts) _ _ _ w.1) [
         | inr w ↦
             let same = given_ok (cut.Param w.0.0) x w.0.1 rest w.2 in
-            let front : List Lexeme = lexeme.Param w.0.0 ∷ [] in
-            (front, param_ok ts w.0.0 w.0.1 w.1 ∙ ap (λ q. lexeme.Param w.0.0 ∷ q) same.1, subst (λ z. Count front z) same.0 (s.param w.0.0))
+            let front : List Lexeme = lexeme.Param w.0.0 ∷ [] in (
+              front,
+              param_ok ts w.0.0 w.0.1 w.1 ∙ ap (λ q. lexeme.Param w.0.0 ∷ q) same.1,
+              subst (λ z. Count front z) same.0 (s.param w.0.0),
+            )
         | inl w ↦
             let k = count_ok false ts x rest w.1 in
             let front : List Lexeme = lexeme.Int k.0 ∷ [] in
@@ -185,7 +235,8 @@ cut_ok ts x rest e =
     ]
 
 -- one number behind LIMIT, and what follows
-second_ok : (x : Cut) (fs : List Lexeme) → Count fs x → (ts : List Lexeme) (c : Cuts) (rest : List Lexeme) →
+second_ok : (x : Cut) (fs : List Lexeme) → Count fs x
+    → (ts : List Lexeme) (c : Cuts) (rest : List Lexeme) →
     second_cut_at x ts ≡ Some (c, rest) → Takes Limits (lexeme.Fixed mark.Limit ∷ (fs ++ ts)) c rest
 unfolding second_cut_at
 second_ok x fs first ts c rest e =
@@ -194,21 +245,40 @@ second_ok x fs first ts c rest e =
           let d = bind_ok (cut_at w.0) _ _ w.2 in
           let t = cut_ok w.0 d.0.0 d.0.1 d.1 in
           let same = given_ok (Some x, Some d.0.0) c d.0.1 rest d.2 in
-          let front : List Lexeme = lexeme.Fixed mark.Limit ∷ (fs ++ lexeme.Fixed mark.Offset ∷ t.0) in
-          let whole : ts ≡ lexeme.Fixed mark.Offset ∷ (t.0 ++ rest) = after_ok mark.Offset ts w.0 w.1 ∙ ap (λ q. lexeme.Fixed mark.Offset ∷ q) (t.1 ∙ ap (λ q. t.0 ++ q) same.1) in
-          (front, ap (λ q. lexeme.Fixed mark.Limit ∷ q) (ap (λ q. fs ++ q) whole ∙ sym (append_assoc fs (lexeme.Fixed mark.Offset ∷ t.0) rest)), subst (λ z. Limits front z) same.0 (s.limit_offset first t.2 refl))
+          let front : List Lexeme =
+          lexeme.Fixed mark.Limit ∷ (fs ++ lexeme.Fixed mark.Offset ∷ t.0) in
+          let whole : ts ≡ lexeme.Fixed mark.Offset ∷ (t.0 ++ rest) =
+          after_ok mark.Offset ts w.0 w.1
+          ∙ ap (λ q. lexeme.Fixed mark.Offset ∷ q) (t.1 ∙ ap (λ q. t.0 ++ q) same.1) in (
+            front,
+            ap (λ q. lexeme.Fixed mark.Limit ∷ q)
+                (ap (λ q. fs ++ q) whole
+                ∙ sym (append_assoc fs (lexeme.Fixed mark.Offset ∷ t.0) rest)),
+            subst (λ z. Limits front z) same.0 (s.limit_offset first t.2 refl),
+          )
       | inl w ↦ elim (branch_ok (after mark.Comma ts) _ _ _ w.1) [
         | inr w ↦
             let d = bind_ok (cut_at w.0) _ _ w.2 in
             let t = cut_ok w.0 d.0.0 d.0.1 d.1 in
             let same = given_ok (Some d.0.0, Some x) c d.0.1 rest d.2 in
-            let front : List Lexeme = lexeme.Fixed mark.Limit ∷ (fs ++ lexeme.Fixed mark.Comma ∷ t.0) in
-            let whole : ts ≡ lexeme.Fixed mark.Comma ∷ (t.0 ++ rest) = after_ok mark.Comma ts w.0 w.1 ∙ ap (λ q. lexeme.Fixed mark.Comma ∷ q) (t.1 ∙ ap (λ q. t.0 ++ q) same.1) in
-            (front, ap (λ q. lexeme.Fixed mark.Limit ∷ q) (ap (λ q. fs ++ q) whole ∙ sym (append_assoc fs (lexeme.Fixed mark.Comma ∷ t.0) rest)), subst (λ z. Limits front z) same.0 (s.offset_limit first t.2 refl))
+            let front : List Lexeme =
+            lexeme.Fixed mark.Limit ∷ (fs ++ lexeme.Fixed mark.Comma ∷ t.0) in
+            let whole : ts ≡ lexeme.Fixed mark.Comma ∷ (t.0 ++ rest) =
+            after_ok mark.Comma ts w.0 w.1
+            ∙ ap (λ q. lexeme.Fixed mark.Comma ∷ q) (t.1 ∙ ap (λ q. t.0 ++ q) same.1) in (
+              front,
+              ap (λ q. lexeme.Fixed mark.Limit ∷ q)
+                  (ap (λ q. fs ++ q) whole
+                  ∙ sym (append_assoc fs (lexeme.Fixed mark.Comma ∷ t.0) rest)),
+              subst (λ z. Limits front z) same.0 (s.offset_limit first t.2 refl),
+            )
         | inl w ↦
             let same = given_ok (Some x, None) c ts rest w.1 in
-            let front : List Lexeme = lexeme.Fixed mark.Limit ∷ fs in
-            (front, ap (λ q. lexeme.Fixed mark.Limit ∷ (fs ++ q)) same.1, subst (λ z. Limits front z) same.0 (s.limit first))
+            let front : List Lexeme = lexeme.Fixed mark.Limit ∷ fs in (
+              front,
+              ap (λ q. lexeme.Fixed mark.Limit ∷ (fs ++ q)) same.1,
+              subst (λ z. Limits front z) same.0 (s.limit first),
+            )
       ]
     ]
 
@@ -220,22 +290,44 @@ cuts_ok ts x rest e =
       | inr w ↦
           let d = bind_ok (cut_at w.0) _ _ w.2 in
           let t = cut_ok w.0 d.0.0 d.0.1 d.1 in
-          moved Limits ts (lexeme.Fixed mark.Limit ∷ (t.0 ++ d.0.1)) rest x (after_ok mark.Limit ts w.0 w.1 ∙ ap (λ q. lexeme.Fixed mark.Limit ∷ q) t.1) (second_ok d.0.0 t.0 t.2 d.0.1 x rest d.2)
+          moved Limits ts (lexeme.Fixed mark.Limit ∷ (t.0 ++ d.0.1)) rest x
+          (after_ok mark.Limit ts w.0 w.1 ∙ ap (λ q. lexeme.Fixed mark.Limit ∷ q) t.1)
+          (second_ok d.0.0 t.0 t.2 d.0.1 x rest d.2)
     ]
 
 direction_ok : IsSound Directed direction_at
 unfolding direction_at
 direction_ok [] x rest e = here Directed [] rest [] x false s.none (given_ok false x [] rest e)
-direction_ok (lexeme.Name bytes None ∷ ts) x rest e = here Directed [] rest (lexeme.Name bytes None ∷ ts) x false s.none (given_ok false x (lexeme.Name bytes None ∷ ts) rest e)
-direction_ok (lexeme.Name bytes (Some direction.Asc) ∷ ts) x rest e = here Directed (lexeme.Name bytes (Some direction.Asc) ∷ []) rest ts x false (s.asc bytes) (given_ok false x ts rest e)
-direction_ok (lexeme.Name bytes (Some direction.Desc) ∷ ts) x rest e = here Directed (lexeme.Name bytes (Some direction.Desc) ∷ []) rest ts x true (s.desc bytes) (given_ok true x ts rest e)
-direction_ok (lexeme.Fixed m ∷ ts) x rest e = here Directed [] rest (lexeme.Fixed m ∷ ts) x false s.none (given_ok false x (lexeme.Fixed m ∷ ts) rest e)
-direction_ok (lexeme.Text b ∷ ts) x rest e = here Directed [] rest (lexeme.Text b ∷ ts) x false s.none (given_ok false x (lexeme.Text b ∷ ts) rest e)
-direction_ok (lexeme.Blob b ∷ ts) x rest e = here Directed [] rest (lexeme.Blob b ∷ ts) x false s.none (given_ok false x (lexeme.Blob b ∷ ts) rest e)
-direction_ok (lexeme.Int n ∷ ts) x rest e = here Directed [] rest (lexeme.Int n ∷ ts) x false s.none (given_ok false x (lexeme.Int n ∷ ts) rest e)
-direction_ok (lexeme.Dec n ∷ ts) x rest e = here Directed [] rest (lexeme.Dec n ∷ ts) x false s.none (given_ok false x (lexeme.Dec n ∷ ts) rest e)
-direction_ok (lexeme.Param n ∷ ts) x rest e = here Directed [] rest (lexeme.Param n ∷ ts) x false s.none (given_ok false x (lexeme.Param n ∷ ts) rest e)
-direction_ok (lexeme.Other ∷ ts) x rest e = here Directed [] rest (lexeme.Other ∷ ts) x false s.none (given_ok false x (lexeme.Other ∷ ts) rest e)
+direction_ok (lexeme.Name bytes None ∷ ts) x rest e =
+    here Directed [] rest (lexeme.Name bytes None ∷ ts) x false s.none
+    (given_ok false x (lexeme.Name bytes None ∷ ts) rest e)
+direction_ok (lexeme.Name bytes (Some direction.Asc) ∷ ts) x rest e =
+    here Directed (lexeme.Name bytes (Some direction.Asc) ∷ []) rest ts x false (s.asc bytes)
+    (given_ok false x ts rest e)
+direction_ok (lexeme.Name bytes (Some direction.Desc) ∷ ts) x rest e =
+    here Directed (lexeme.Name bytes (Some direction.Desc) ∷ []) rest ts x true (s.desc bytes)
+    (given_ok true x ts rest e)
+direction_ok (lexeme.Fixed m ∷ ts) x rest e =
+    here Directed [] rest (lexeme.Fixed m ∷ ts) x false s.none
+    (given_ok false x (lexeme.Fixed m ∷ ts) rest e)
+direction_ok (lexeme.Text b ∷ ts) x rest e =
+    here Directed [] rest (lexeme.Text b ∷ ts) x false s.none
+    (given_ok false x (lexeme.Text b ∷ ts) rest e)
+direction_ok (lexeme.Blob b ∷ ts) x rest e =
+    here Directed [] rest (lexeme.Blob b ∷ ts) x false s.none
+    (given_ok false x (lexeme.Blob b ∷ ts) rest e)
+direction_ok (lexeme.Int n ∷ ts) x rest e =
+    here Directed [] rest (lexeme.Int n ∷ ts) x false s.none
+    (given_ok false x (lexeme.Int n ∷ ts) rest e)
+direction_ok (lexeme.Dec n ∷ ts) x rest e =
+    here Directed [] rest (lexeme.Dec n ∷ ts) x false s.none
+    (given_ok false x (lexeme.Dec n ∷ ts) rest e)
+direction_ok (lexeme.Param n ∷ ts) x rest e =
+    here Directed [] rest (lexeme.Param n ∷ ts) x false s.none
+    (given_ok false x (lexeme.Param n ∷ ts) rest e)
+direction_ok (lexeme.Other ∷ ts) x rest e =
+    here Directed [] rest (lexeme.Other ∷ ts) x false s.none
+    (given_ok false x (lexeme.Other ∷ ts) rest e)
 
 join_same : (ts r : List Lexeme) → join_begins ts ≡ Some r → ts ≡ r
 unfolding join_begins
@@ -254,12 +346,17 @@ join_same ts r e =
       ]
     ]
 
-past_ok : (ts r : List Lexeme) → past_all ts ≡ r → (qs : List Lexeme) × PerhapsAll qs × (ts ≡ qs ++ r)
+past_ok : (ts r : List Lexeme) → past_all ts ≡ r
+    → (qs : List Lexeme) × PerhapsAll qs × (ts ≡ qs ++ r)
 unfolding past_all
 past_ok ts r e =
     elim (branch_ok (after mark.All ts) _ _ _ e) [
       | inl w ↦ ([], s.none, w.1)
-      | inr w ↦ (lexeme.Fixed mark.All ∷ [], s.all, after_ok mark.All ts w.0 w.1 ∙ ap (λ q. lexeme.Fixed mark.All ∷ q) w.2)
+      | inr w ↦ (
+        lexeme.Fixed mark.All ∷ [],
+        s.all,
+        after_ok mark.All ts w.0 w.1 ∙ ap (λ q. lexeme.Fixed mark.All ∷ q) w.2,
+      )
     ]
 
 -- Parts with expressions, over a reader of expressions.
@@ -273,8 +370,13 @@ module _ (p : Reader Tree) (sound : IsSound (Spells g.expr) p) where
             let d = bind_ok (p w.0) _ _ w.2 in
             let t = sound w.0 d.0.0 d.0.1 d.1 in
             let same = given_ok (Some d.0.0) x d.0.1 rest d.2 in
-            let front : List Lexeme = lexeme.Fixed m ∷ t.0 in
-            (front, after_ok m ts w.0 w.1 ∙ ap (λ q. lexeme.Fixed m ∷ q) (t.1 ∙ ap (λ q. t.0 ++ q) same.1), subst (λ z. Condition m front z) same.0 (s.present t.2))
+            let front : List Lexeme = lexeme.Fixed m ∷ t.0 in (
+              front,
+              after_ok m ts w.0 w.1
+                  ∙ ap (λ q. lexeme.Fixed m ∷ q) (t.1 ∙ ap (λ q. t.0 ++ q) same.1),
+              subst
+                  (λ z. Condition m front z) same.0 (s.present t.2),
+            )
       ]
 
   value_item_ok : IsSound Result (value_item_at p)
@@ -285,8 +387,13 @@ module _ (p : Reader Tree) (sound : IsSound (Spells g.expr) p) where
       let k = bind_ok (alias_at true d.0.1) _ _ d.2 in
       let a = alias_ok true d.0.1 k.0.0 k.0.1 k.1 in
       let same = given_ok (statement.Value d.0.0 k.0.0) x k.0.1 rest k.2 in
-      let front : List Lexeme = t.0 ++ a.0 in
-      (front, t.1 ∙ ap (λ q. t.0 ++ q) (a.1 ∙ ap (λ q. a.0 ++ q) same.1) ∙ sym (append_assoc t.0 a.0 rest), subst (λ z. Result front z) same.0 (s.value t.2 a.2 refl))
+      let front : List Lexeme = t.0 ++ a.0 in (
+        front,
+        t.1 ∙ ap (λ q. t.0 ++ q) (a.1 ∙ ap (λ q. a.0 ++ q) same.1)
+            ∙ sym (append_assoc t.0 a.0 rest),
+        subst (λ z. Result front z) same.0
+            (s.value t.2 a.2 refl),
+      )
 
   item_ok : IsSound Result (item_at p)
   unfolding item_at
@@ -294,14 +401,22 @@ module _ (p : Reader Tree) (sound : IsSound (Spells g.expr) p) where
       elim (branch_ok (after mark.Star ts) _ _ _ e) [
         | inr w ↦
             let same = given_ok statement.Star x w.0 rest w.2 in
-            let front : List Lexeme = lexeme.Fixed mark.Star ∷ [] in
-            (front, after_ok mark.Star ts w.0 w.1 ∙ ap (λ q. lexeme.Fixed mark.Star ∷ q) same.1, subst (λ z. Result front z) same.0 s.star)
+            let front : List Lexeme = lexeme.Fixed mark.Star ∷ [] in (
+              front,
+              after_ok mark.Star ts w.0 w.1 ∙ ap (λ q. lexeme.Fixed mark.Star ∷ q) same.1,
+              subst (λ z. Result front z) same.0 s.star,
+            )
         | inl w ↦ elim (branch_ok (table_star_at ts) _ _ _ w.1) [
           | inr w ↦
               let k = table_star_ok ts w.0.0 w.0.1 w.1 in
               let same = given_ok (statement.TableStar w.0.0) x w.0.1 rest w.2 in
-              let front : List Lexeme = lexeme.Name w.0.0 k.0 ∷ lexeme.Fixed mark.Dot ∷ lexeme.Fixed mark.Star ∷ [] in
-              (front, k.1 ∙ ap (λ q. lexeme.Name w.0.0 k.0 ∷ lexeme.Fixed mark.Dot ∷ lexeme.Fixed mark.Star ∷ q) same.1, subst (λ z. Result front z) same.0 (s.table_star w.0.0 k.0))
+              let front : List Lexeme =
+              lexeme.Name w.0.0 k.0 ∷ lexeme.Fixed mark.Dot ∷ lexeme.Fixed mark.Star ∷ [] in (
+                front,
+                k.1 ∙ ap (λ q. lexeme.Name w.0.0 k.0 ∷ lexeme.Fixed mark.Dot ∷ lexeme.Fixed
+                    mark.Star ∷ q) same.1,
+                subst (λ z. Result front z) same.0 (s.table_star w.0.0 k.0),
+              )
           | inl w ↦ value_item_ok ts x rest w.1
         ]
       ]
@@ -318,8 +433,13 @@ module _ (p : Reader Tree) (sound : IsSound (Spells g.expr) p) where
             let k = condition_ok mark.On d.0.1 h.0.0 h.0.1 h.1 in
             let same = given_ok (on_condition d.0.0 h.0.0) x h.0.1 rest h.2 in
             let front : List Lexeme = lexeme.Fixed mark.Join ∷ (t.0 ++ k.0) in
-            let whole : w.0 ≡ (t.0 ++ k.0) ++ rest = t.1 ∙ ap (λ q. t.0 ++ q) (k.1 ∙ ap (λ q. k.0 ++ q) same.1) ∙ sym (append_assoc t.0 k.0 rest) in
-            (front, after_ok mark.Join ts w.0 w.1 ∙ ap (λ q. lexeme.Fixed mark.Join ∷ q) whole, subst (λ z. Joined cross front z) same.0 (s.joined t.2 k.2 refl))
+            let whole : w.0 ≡ (t.0 ++ k.0) ++ rest =
+            t.1 ∙ ap (λ q. t.0 ++ q) (k.1 ∙ ap (λ q. k.0 ++ q) same.1)
+            ∙ sym (append_assoc t.0 k.0 rest) in (
+              front,
+              after_ok mark.Join ts w.0 w.1 ∙ ap (λ q. lexeme.Fixed mark.Join ∷ q) whole,
+              subst (λ z. Joined cross front z) same.0 (s.joined t.2 k.2 refl),
+            )
       ]
 
   join_ok : IsSound Join (join_at p)
@@ -327,16 +447,28 @@ module _ (p : Reader Tree) (sound : IsSound (Spells g.expr) p) where
   join_ok ts x rest e =
       elim (branch_ok (after mark.Comma ts) _ _ _ e) [
         | inr w ↦
-            let t = table_ok false w.0 x rest w.2 in
-            (lexeme.Fixed mark.Comma ∷ t.0, after_ok mark.Comma ts w.0 w.1 ∙ ap (λ q. lexeme.Fixed mark.Comma ∷ q) t.1, s.comma t.2)
+            let t = table_ok false w.0 x rest w.2 in (
+              lexeme.Fixed mark.Comma ∷ t.0,
+              after_ok mark.Comma ts w.0 w.1
+                  ∙ ap (λ q. lexeme.Fixed mark.Comma ∷ q) t.1,
+              s.comma t.2,
+            )
         | inl w ↦ elim (branch_ok (after mark.Cross ts) _ _ _ w.1) [
           | inr w ↦
-              let t = joined_ok true w.0 x rest w.2 in
-              (lexeme.Fixed mark.Cross ∷ t.0, after_ok mark.Cross ts w.0 w.1 ∙ ap (λ q. lexeme.Fixed mark.Cross ∷ q) t.1, s.cross t.2)
+              let t = joined_ok true w.0 x rest w.2 in (
+                lexeme.Fixed mark.Cross ∷ t.0,
+                after_ok mark.Cross ts w.0 w.1
+                    ∙ ap (λ q. lexeme.Fixed mark.Cross ∷ q) t.1,
+                s.cross t.2,
+              )
           | inl w ↦ elim (branch_ok (after mark.Inner ts) _ _ _ w.1) [
             | inr w ↦
-                let t = joined_ok false w.0 x rest w.2 in
-                (lexeme.Fixed mark.Inner ∷ t.0, after_ok mark.Inner ts w.0 w.1 ∙ ap (λ q. lexeme.Fixed mark.Inner ∷ q) t.1, s.inner t.2)
+                let t = joined_ok false w.0 x rest w.2 in (
+                  lexeme.Fixed mark.Inner ∷ t.0,
+                  after_ok mark.Inner ts w.0 w.1
+                      ∙ ap (λ q. lexeme.Fixed mark.Inner ∷ q) t.1,
+                  s.inner t.2,
+                )
             | inl w ↦
                 let t = joined_ok false ts x rest w.1 in
                 (t.0, t.1, s.plain t.2)
@@ -357,7 +489,9 @@ module _ (p : Reader Tree) (sound : IsSound (Spells g.expr) p) where
             let k = joins_ok n d.0.1 h.0.0 h.0.1 h.1 in
             let same = given_ok (d.0.0 ∷ h.0.0) x h.0.1 rest h.2 in
             let front : List Lexeme = t.0 ++ k.0 in
-            let whole : ts ≡ front ++ rest = join_same ts w.0 w.1 ∙ t.1 ∙ ap (λ q. t.0 ++ q) (k.1 ∙ ap (λ q. k.0 ++ q) same.1) ∙ sym (append_assoc t.0 k.0 rest) in
+            let whole : ts ≡ front ++ rest =
+            join_same ts w.0 w.1 ∙ t.1 ∙ ap (λ q. t.0 ++ q) (k.1 ∙ ap (λ q. k.0 ++ q) same.1)
+            ∙ sym (append_assoc t.0 k.0 rest) in
             (front, whole, subst (λ z. Joins front z) same.0 (s.more t.2 k.2 refl))
       ]
 
@@ -370,7 +504,9 @@ module _ (p : Reader Tree) (sound : IsSound (Spells g.expr) p) where
       let k = joins_ok (length d.0.1) d.0.1 h.0.0 h.0.1 h.1 in
       let same = given_ok (d.0.0 ∷ h.0.0) x h.0.1 rest h.2 in
       let front : List Lexeme = t.0 ++ k.0 in
-      let whole : ts ≡ front ++ rest = t.1 ∙ ap (λ q. t.0 ++ q) (k.1 ∙ ap (λ q. k.0 ++ q) same.1) ∙ sym (append_assoc t.0 k.0 rest) in
+      let whole : ts ≡ front ++ rest =
+      t.1 ∙ ap (λ q. t.0 ++ q) (k.1 ∙ ap (λ q. k.0 ++ q) same.1)
+      ∙ sym (append_assoc t.0 k.0 rest) in
       (front, whole, subst (λ z. Sources front z) same.0 (s.sources t.2 k.2 refl))
 
   key_ok : IsSound SortKey (key_at p)
@@ -382,7 +518,9 @@ module _ (p : Reader Tree) (sound : IsSound (Spells g.expr) p) where
       let k = direction_ok d.0.1 h.0.0 h.0.1 h.1 in
       let same = given_ok (key_by d.0.0 h.0.0) x h.0.1 rest h.2 in
       let front : List Lexeme = t.0 ++ k.0 in
-      let whole : ts ≡ front ++ rest = t.1 ∙ ap (λ q. t.0 ++ q) (k.1 ∙ ap (λ q. k.0 ++ q) same.1) ∙ sym (append_assoc t.0 k.0 rest) in
+      let whole : ts ≡ front ++ rest =
+      t.1 ∙ ap (λ q. t.0 ++ q) (k.1 ∙ ap (λ q. k.0 ++ q) same.1)
+      ∙ sym (append_assoc t.0 k.0 rest) in
       (front, whole, subst (λ z. SortKey front z) same.0 (s.key t.2 k.2 refl))
 
   keys_ok : IsSound SortKeys (keys_at p)
@@ -394,8 +532,14 @@ module _ (p : Reader Tree) (sound : IsSound (Spells g.expr) p) where
           | inl v ↦ absurd (cc (v.1))
           | inr v ↦
               let t = listed_ok SortKey (key_at p) key_ok v.0 x rest v.2 in
-              let front : List Lexeme = lexeme.Fixed mark.Order ∷ lexeme.Fixed mark.By ∷ t.0 in
-              (front, after_ok mark.Order ts w.0 w.1 ∙ ap (λ q. lexeme.Fixed mark.Order ∷ q) (after_ok mark.By w.0 v.0 v.1 ∙ ap (λ q. lexeme.Fixed mark.By ∷ q) t.1), s.ordered t.2)
+              let front : List Lexeme = lexeme.Fixed mark.Order ∷ lexeme.Fixed mark.By ∷ t.0 in (
+                front,
+                after_ok mark.Order ts w.0 w.1
+                    ∙ ap (λ q. lexeme.Fixed mark.Order ∷ q)
+                    (after_ok mark.By w.0 v.0 v.1 ∙ ap (λ q. lexeme.Fixed mark.By ∷ q) t.1),
+                s.ordered
+                    t.2,
+              )
         ]
       ]
 
@@ -410,8 +554,13 @@ module _ (p : Reader Tree) (sound : IsSound (Spells g.expr) p) where
             let d = bind_ok (p w.0) _ _ w.2 in
             let t = sound w.0 d.0.0 d.0.1 d.1 in
             let same = given_ok (set_to n.0.0 d.0.0) x d.0.1 rest d.2 in
-            let front : List Lexeme = lexeme.Name n.0.0 k.0 ∷ lexeme.Fixed mark.Eq ∷ t.0 in
-            (front, k.1 ∙ ap (λ q. lexeme.Name n.0.0 k.0 ∷ q) (after_ok mark.Eq n.0.1 w.0 w.1 ∙ ap (λ q. lexeme.Fixed mark.Eq ∷ q) (t.1 ∙ ap (λ q. t.0 ++ q) same.1)), subst (λ z. Setting front z) same.0 (s.set n.0.0 k.0 t.2))
+            let front : List Lexeme = lexeme.Name n.0.0 k.0 ∷ lexeme.Fixed mark.Eq ∷ t.0 in (
+              front,
+              k.1 ∙ ap (λ q. lexeme.Name n.0.0 k.0 ∷ q)
+                  (after_ok mark.Eq n.0.1 w.0 w.1
+                  ∙ ap (λ q. lexeme.Fixed mark.Eq ∷ q) (t.1 ∙ ap (λ q. t.0 ++ q) same.1)),
+              subst (λ z. Setting front z) same.0 (s.set n.0.0 k.0 t.2),
+            )
       ]
 
   -- what follows FROM, up to the end of the statement
@@ -422,7 +571,8 @@ module _ (p : Reader Tree) (sound : IsSound (Spells g.expr) p) where
       Sources ss sources × Condition mark.Where fs filter × SortKeys ks keys × Limits cs cuts ×
       (select_of items sources filter keys cuts ≡ x) × (ts ≡ (ss ++ (fs ++ (ks ++ cs))) ++ rest)
 
-  from_ok : (items : List ItemTree) (ts : List Lexeme) (x : SelectTree) (rest : List Lexeme) → from_at p items ts ≡ Some (x, rest) → TakesFrom items ts x rest
+  from_ok : (items : List ItemTree) (ts : List Lexeme) (x : SelectTree) (rest : List Lexeme)
+      → from_at p items ts ≡ Some (x, rest) → TakesFrom items ts x rest
   unfolding from_at
   from_ok items ts x rest e =
       let a = bind_ok (sources_at p ts) _ _ e in
@@ -435,11 +585,30 @@ module _ (p : Reader Tree) (sound : IsSound (Spells g.expr) p) where
       let cuts = cuts_ok c.0.1 d.0.0 d.0.1 d.1 in
       let same = given_ok (select_of items a.0.0 b.0.0 c.0.0 d.0.0) x d.0.1 rest d.2 in
       let split : ts ≡ sources.0 ++ (filter.0 ++ (keys.0 ++ (cuts.0 ++ rest))) =
-      sources.1 ∙ ap (λ q. sources.0 ++ q) (filter.1 ∙ ap (λ q. filter.0 ++ q) (keys.1 ∙ ap (λ q. keys.0 ++ q) (cuts.1 ∙ ap (λ q. cuts.0 ++ q) same.1))) in
-      let again : sources.0 ++ (filter.0 ++ (keys.0 ++ (cuts.0 ++ rest))) ≡ (sources.0 ++ (filter.0 ++ (keys.0 ++ cuts.0))) ++ rest = simp append_assoc in
-      (sources.0, filter.0, keys.0, cuts.0, a.0.0, b.0.0, c.0.0, d.0.0, sources.2, filter.2, keys.2, cuts.2, same.0, split ∙ again)
+      sources.1 ∙ ap (λ q. sources.0 ++ q)
+      (filter.1 ∙ ap (λ q. filter.0 ++ q)
+      (keys.1 ∙ ap (λ q. keys.0 ++ q) (cuts.1 ∙ ap (λ q. cuts.0 ++ q) same.1))) in
+      let again : sources.0 ++ (filter.0 ++ (keys.0 ++ (cuts.0 ++ rest)))
+      ≡ (sources.0 ++ (filter.0 ++ (keys.0 ++ cuts.0))) ++ rest = simp append_assoc in (
+        sources.0,
+        filter.0,
+        keys.0,
+        cuts.0,
+        a.0.0,
+        b.0.0,
+        c.0.0,
+        d.0.0,
+        sources.2,
+        filter.2,
+        keys.2,
+        cuts.2,
+        same.0,
+        split ∙ again,
+      )
 
-  select_ok : (ts q : List Lexeme) (x : SelectTree) (rest : List Lexeme) → after mark.Select ts ≡ Some q → select_at p q ≡ Some (x, rest) → Takes IsSpelled ts (statement.Select x) rest
+  select_ok : (ts q : List Lexeme) (x : SelectTree) (rest : List Lexeme)
+      → after mark.Select ts ≡ Some q → select_at p q ≡ Some (x, rest)
+      → Takes IsSpelled ts (statement.Select x) rest
   unfolding select_at items_at
   select_ok ts q x rest next e =
       let past = past_ok q (past_all q) refl in
@@ -450,15 +619,30 @@ module _ (p : Reader Tree) (sound : IsSound (Spells g.expr) p) where
         | inr w ↦
             let f = from_ok a.0.0 w.0 x rest w.2 in
             let behind : List Lexeme = f.0 ++ (f.1 ++ (f.2 ++ f.3)) in
-            let front : List Lexeme = lexeme.Fixed mark.Select ∷ (past.0 ++ (items.0 ++ lexeme.Fixed mark.From ∷ behind)) in
+            let front : List Lexeme =
+            lexeme.Fixed mark.Select ∷ (past.0 ++ (items.0 ++ lexeme.Fixed mark.From ∷ behind))
+            in
             let split : q ≡ past.0 ++ (items.0 ++ lexeme.Fixed mark.From ∷ (behind ++ rest)) =
-            past.2 ∙ ap (λ z. past.0 ++ z) (items.1 ∙ ap (λ z. items.0 ++ z) (after_ok mark.From a.0.1 w.0 w.1 ∙ ap (λ z. lexeme.Fixed mark.From ∷ z) f.13)) in
-            let again : past.0 ++ (items.0 ++ lexeme.Fixed mark.From ∷ (behind ++ rest)) ≡ (past.0 ++ (items.0 ++ lexeme.Fixed mark.From ∷ behind)) ++ rest =
-            ap (λ z. past.0 ++ z) (sym (append_assoc items.0 (lexeme.Fixed mark.From ∷ behind) rest)) ∙ sym (append_assoc past.0 (items.0 ++ lexeme.Fixed mark.From ∷ behind) rest) in
-            (front, after_ok mark.Select ts q next ∙ ap (λ z. lexeme.Fixed mark.Select ∷ z) (split ∙ again), subst (λ z. IsSpelled front (statement.Select z)) f.12 (s.select past.1 items.2 f.8 f.9 f.10 f.11 refl))
+            past.2 ∙ ap (λ z. past.0 ++ z)
+            (items.1 ∙ ap (λ z. items.0 ++ z)
+            (after_ok mark.From a.0.1 w.0 w.1 ∙ ap (λ z. lexeme.Fixed mark.From ∷ z) f.13)) in
+            let again : past.0 ++ (items.0 ++ lexeme.Fixed mark.From ∷ (behind ++ rest))
+            ≡ (past.0 ++ (items.0 ++ lexeme.Fixed mark.From ∷ behind)) ++ rest =
+            ap (λ z. past.0 ++ z)
+            (sym (append_assoc items.0 (lexeme.Fixed mark.From ∷ behind) rest))
+            ∙ sym (append_assoc past.0 (items.0 ++ lexeme.Fixed mark.From ∷ behind) rest) in (
+              front,
+              after_ok mark.Select ts q next
+                  ∙ ap (λ z. lexeme.Fixed mark.Select ∷ z) (split ∙ again),
+              subst
+                  (λ z. IsSpelled front (statement.Select z)) f.12
+                  (s.select past.1 items.2 f.8 f.9 f.10 f.11 refl),
+            )
       ]
 
-  update_ok : (ts q : List Lexeme) (x : UpdateTree) (rest : List Lexeme) → after mark.Update ts ≡ Some q → update_at p q ≡ Some (x, rest) → Takes IsSpelled ts (statement.Update x) rest
+  update_ok : (ts q : List Lexeme) (x : UpdateTree) (rest : List Lexeme)
+      → after mark.Update ts ≡ Some q → update_at p q ≡ Some (x, rest)
+      → Takes IsSpelled ts (statement.Update x) rest
   unfolding update_at sets_at
   update_ok ts q x rest next e =
       let a = bind_ok (source_at false q) _ _ e in
@@ -471,15 +655,31 @@ module _ (p : Reader Tree) (sound : IsSound (Spells g.expr) p) where
             let c = bind_ok (optional_at mark.Where p b.0.1) _ _ b.2 in
             let filter = condition_ok mark.Where b.0.1 c.0.0 c.0.1 c.1 in
             let same = given_ok (update_of a.0.0 b.0.0 c.0.0) x c.0.1 rest c.2 in
-            let front : List Lexeme = lexeme.Fixed mark.Update ∷ (source.0 ++ lexeme.Fixed mark.Set ∷ (sets.0 ++ filter.0)) in
+            let front : List Lexeme =
+            lexeme.Fixed mark.Update ∷
+            (source.0 ++ lexeme.Fixed mark.Set ∷ (sets.0 ++ filter.0)) in
             let split : q ≡ source.0 ++ lexeme.Fixed mark.Set ∷ (sets.0 ++ (filter.0 ++ rest)) =
-            source.1 ∙ ap (λ z. source.0 ++ z) (after_ok mark.Set a.0.1 w.0 w.1 ∙ ap (λ z. lexeme.Fixed mark.Set ∷ z) (sets.1 ∙ ap (λ z. sets.0 ++ z) (filter.1 ∙ ap (λ z. filter.0 ++ z) same.1))) in
-            let again : source.0 ++ lexeme.Fixed mark.Set ∷ (sets.0 ++ (filter.0 ++ rest)) ≡ (source.0 ++ lexeme.Fixed mark.Set ∷ (sets.0 ++ filter.0)) ++ rest =
-            ap (λ z. source.0 ++ lexeme.Fixed mark.Set ∷ z) (sym (append_assoc sets.0 filter.0 rest)) ∙ sym (append_assoc source.0 (lexeme.Fixed mark.Set ∷ (sets.0 ++ filter.0)) rest) in
-            (front, after_ok mark.Update ts q next ∙ ap (λ z. lexeme.Fixed mark.Update ∷ z) (split ∙ again), subst (λ z. IsSpelled front (statement.Update z)) same.0 (s.update source.2 sets.2 filter.2 refl))
+            source.1 ∙ ap (λ z. source.0 ++ z)
+            (after_ok mark.Set a.0.1 w.0 w.1
+            ∙ ap (λ z. lexeme.Fixed mark.Set ∷ z)
+            (sets.1 ∙ ap (λ z. sets.0 ++ z) (filter.1 ∙ ap (λ z. filter.0 ++ z) same.1))) in
+            let again : source.0 ++ lexeme.Fixed mark.Set ∷ (sets.0 ++ (filter.0 ++ rest))
+            ≡ (source.0 ++ lexeme.Fixed mark.Set ∷ (sets.0 ++ filter.0)) ++ rest =
+            ap (λ z. source.0 ++ lexeme.Fixed mark.Set ∷ z)
+            (sym (append_assoc sets.0 filter.0 rest))
+            ∙ sym (append_assoc source.0 (lexeme.Fixed mark.Set ∷ (sets.0 ++ filter.0)) rest) in (
+              front,
+              after_ok mark.Update ts q next
+                  ∙ ap (λ z. lexeme.Fixed mark.Update ∷ z) (split ∙ again),
+              subst
+                  (λ z. IsSpelled front (statement.Update z)) same.0
+                  (s.update source.2 sets.2 filter.2 refl),
+            )
       ]
 
-  delete_ok : (ts q : List Lexeme) (x : DeleteTree) (rest : List Lexeme) → after mark.Delete ts ≡ Some q → delete_at p q ≡ Some (x, rest) → Takes IsSpelled ts (statement.Delete x) rest
+  delete_ok : (ts q : List Lexeme) (x : DeleteTree) (rest : List Lexeme)
+      → after mark.Delete ts ≡ Some q → delete_at p q ≡ Some (x, rest)
+      → Takes IsSpelled ts (statement.Delete x) rest
   unfolding delete_at
   delete_ok ts q x rest next e =
       elim (branch_ok (after mark.From q) _ _ _ e) [
@@ -490,15 +690,25 @@ module _ (p : Reader Tree) (sound : IsSound (Spells g.expr) p) where
             let c = bind_ok (optional_at mark.Where p a.0.1) _ _ a.2 in
             let filter = condition_ok mark.Where a.0.1 c.0.0 c.0.1 c.1 in
             let same = given_ok (delete_of a.0.0 c.0.0) x c.0.1 rest c.2 in
-            let front : List Lexeme = lexeme.Fixed mark.Delete ∷ lexeme.Fixed mark.From ∷ (source.0 ++ filter.0) in
+            let front : List Lexeme =
+            lexeme.Fixed mark.Delete ∷ lexeme.Fixed mark.From ∷ (source.0 ++ filter.0) in
             let split : q ≡ lexeme.Fixed mark.From ∷ ((source.0 ++ filter.0) ++ rest) =
-            after_ok mark.From q w.0 w.1 ∙ ap (λ z. lexeme.Fixed mark.From ∷ z) (source.1 ∙ ap (λ z. source.0 ++ z) (filter.1 ∙ ap (λ z. filter.0 ++ z) same.1) ∙ sym (append_assoc source.0 filter.0 rest)) in
-            (front, after_ok mark.Delete ts q next ∙ ap (λ z. lexeme.Fixed mark.Delete ∷ z) split, subst (λ z. IsSpelled front (statement.Delete z)) same.0 (s.delete source.2 filter.2 refl))
+            after_ok mark.From q w.0 w.1
+            ∙ ap (λ z. lexeme.Fixed mark.From ∷ z)
+            (source.1 ∙ ap (λ z. source.0 ++ z) (filter.1 ∙ ap (λ z. filter.0 ++ z) same.1)
+            ∙ sym (append_assoc source.0 filter.0 rest)) in (
+              front,
+              after_ok mark.Delete ts q next ∙ ap (λ z. lexeme.Fixed mark.Delete ∷ z) split,
+              subst (λ z. IsSpelled front (statement.Delete z)) same.0
+                  (s.delete source.2 filter.2 refl),
+            )
       ]
 
   -- a reader's answer under a constructor
-  wrapped : {A : Type 0} (f : A → StatementTree) (r : Read A) (x : StatementTree) (rest : List Lexeme) →
-      ◌>>=◌ {B = StatementTree × List Lexeme} r (λ a. Some (f a.0, a.1)) ≡ Some (x, rest) → (y : A) × (f y ≡ x) × (r ≡ Some (y, rest))
+  wrapped : {A : Type 0} (f : A → StatementTree) (r : Read A) (x : StatementTree)
+      (rest : List Lexeme) →
+      ◌>>=◌ {B = StatementTree × List Lexeme} r (λ a. Some (f a.0, a.1)) ≡ Some (x, rest)
+      → (y : A) × (f y ≡ x) × (r ≡ Some (y, rest))
   wrapped {A} f r x rest e =
       let d = bind_ok r _ _ e in
       let same = given_ok (f d.0.0) x d.0.1 rest d.2 in

@@ -1,5 +1,6 @@
 -- What an answer of a reader says of its steps.
-use Rattle.std.proofs.Common.{◌≡◌, ℕ, Bool, true, false, cond, ◌⊎◌, inl, inr, Option, None, Some, List, [], ◌∷◌, ◌++◌, refl, ap, ◌∙◌, subst}
+use Rattle.std.proofs.Common.{◌≡◌, ℕ, Bool, true, false, cond, ◌⊎◌, inl, inr, Option, None, Some}
+use Rattle.std.proofs.Common.{List, [], ◌∷◌, ◌++◌, refl, ap, ◌∙◌, subst}
 use denote.Enum.Bare.{same_true, true_same}
 use Rattle.sql_read.specs.contracts.lexeme.Mark.{the_type}
 use Rattle.sql_read.specs.declared.lexeme.Direction.{Direction}
@@ -18,7 +19,8 @@ pub branch_ok : {A C : Type 0} (o : Option A) (b : C) (f : A → C) (z : C) → 
 branch_ok None b f z e = inl (refl, e)
 branch_ok (Some a) b f z e = inr (a, refl, e)
 
-pub given_ok : {A B : Type 0} (a c : A) (b d : B) → ◌≡◌ {A = Option (A × B)} (Some (a, b)) (Some (c, d)) →
+pub given_ok : {A B : Type 0} (a c : A) (b d : B)
+    → ◌≡◌ {A = Option (A × B)} (Some (a, b)) (Some (c, d)) →
     (a ≡ c) × (b ≡ d)
 given_ok {A} {B} a c b d e =
     let q : ◌≡◌ {A = A × B} (a, b) (c, d) = cc in
@@ -71,24 +73,29 @@ name_ok (lexeme.Param n ∷ rest) c r e = cc
 name_ok (lexeme.Other ∷ rest) c r e = cc
 
 -- some front of the lexemes is in relation to the answer, and the rest is behind it
-abbrev pub Takes : {A : Type 0} → (List Lexeme → A → Type 0) → List Lexeme → A → List Lexeme → Type 0
+abbrev pub Takes : {A : Type 0} → (List Lexeme → A → Type 0) → List Lexeme → A → List Lexeme
+    → Type 0
 Takes R ts x rest = (front : List Lexeme) × (ts ≡ front ++ rest) × R front x
 
 -- a reader reads only what is in this relation
 abbrev pub IsSound : {A : Type 0} → (List Lexeme → A → Type 0) → Reader A → Type 0
-IsSound {A} R p = (ts : List Lexeme) (x : A) (rest : List Lexeme) → p ts ≡ Some (x, rest) → Takes R ts x rest
+IsSound {A} R p = (ts : List Lexeme) (x : A) (rest : List Lexeme) → p ts ≡ Some (x, rest)
+    → Takes R ts x rest
 
 -- the front, read to its end
-pub here : {A : Type 0} (R : List Lexeme → A → Type 0) (front rest q : List Lexeme) (x y : A) → R front y →
+pub here : {A : Type 0} (R : List Lexeme → A → Type 0) (front rest q : List Lexeme) (x y : A)
+    → R front y →
     (y ≡ x) × (q ≡ rest) → Takes R (front ++ q) x rest
 here R front rest q x y s e = (front, ap (λ r. front ++ r) e.1, subst (λ t. R front t) e.0 s)
 
 -- what is taken in one relation is taken in another
-pub under : {A B : Type 0} (R : List Lexeme → A → Type 0) (S : List Lexeme → B → Type 0) (ts rest : List Lexeme)
+pub under : {A B : Type 0} (R : List Lexeme → A → Type 0) (S : List Lexeme → B → Type 0)
+    (ts rest : List Lexeme)
     (x : A) (y : B) → ((fs : List Lexeme) → R fs x → S fs y) → Takes R ts x rest → Takes S ts y rest
 under R S ts rest x y f t = (t.0, t.1, f t.0 t.2)
 
 -- what equal lexemes take
-pub moved : {A : Type 0} (R : List Lexeme → A → Type 0) (ts q rest : List Lexeme) (x : A) → ts ≡ q → Takes R q x rest →
+pub moved : {A : Type 0} (R : List Lexeme → A → Type 0) (ts q rest : List Lexeme) (x : A) → ts ≡ q
+    → Takes R q x rest →
     Takes R ts x rest
 moved R ts q rest x e t = (t.0, e ∙ t.1, t.2)

@@ -1,5 +1,6 @@
 -- The whole of the lexemes: what is read of them, and what they spell.
-use Rattle.std.proofs.Common.{◌≡◌, Some, List, [], ◌∷◌, ◌++◌, length, refl, ap, sym, ◌∙◌, subst, arith}
+use Rattle.std.proofs.Common.{◌≡◌, Some, List, [], ◌∷◌, ◌++◌, length, refl, ap, sym, ◌∙◌, subst}
+use Rattle.std.proofs.Common.{arith}
 use Rattle.std.proofs.lemmas.List.{append-nil}
 use Rattle.sql_tree.specs.Statements.{StatementTree}
 use Rattle.sql_read.specs.declared.lexeme.ReadFault.{ReadFault}
@@ -14,7 +15,8 @@ use Rattle.sql_parse.proofs.Sound.{expressions_sound}
 use Rattle.sql_parse.proofs.SoundStatements.{statement_ok}
 use Rattle.sql_parse.proofs.CompleteStatements.{statement_read}
 
-ended_ok : (x y : StatementTree) (rest : List Lexeme) → ended x rest ≡ Some y → (x ≡ y) × (rest ≡ [])
+ended_ok : (x y : StatementTree) (rest : List Lexeme) → ended x rest ≡ Some y
+    → (x ≡ y) × (rest ≡ [])
 ended_ok x y [] e = (cc, refl)
 ended_ok x y (t ∷ rest) e = cc
 
@@ -33,7 +35,8 @@ read_is_spelled ts x e =
 pub spelled_is_read : (ts : List Lexeme) (x : StatementTree) → IsSpelled ts x → whole_at ts ≡ Some x
 unfolding whole_at
 spelled_is_read ts x s =
-    let read : statement_at (expr_at (below (length ts))) ts ≡ Some (x, []) = statement_read (length ts) s (omega arith) in
+    let read : statement_at (expr_at (below (length ts))) ts ≡ Some (x, []) =
+    statement_read (length ts) s (omega arith) in
     rw read refl
 
 -- at most one tree
@@ -43,6 +46,7 @@ one_tree ts x y s t =
     let b = spelled_is_read ts y t in
     cc
 
-pub not_spelled : (ts : List Lexeme) (e : ReadFault) → Fails e (whole_at ts) → (x : StatementTree) → IsSpelled ts x → e ≡ fault.Memory
+pub not_spelled : (ts : List Lexeme) (e : ReadFault) → Fails e (whole_at ts) → (x : StatementTree)
+    → IsSpelled ts x → e ≡ fault.Memory
 not_spelled ts fault.Syntax none x s = let some = spelled_is_read ts x s in cc
 not_spelled ts fault.Memory none x s = refl

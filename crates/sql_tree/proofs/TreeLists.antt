@@ -6,7 +6,8 @@ use Rattle.sql_tree.specs.Trees as tree
 use Rattle.sql_tree.specs.declared.expression.Expr.{Expr}
 use Rattle.sql_tree.specs.declared.expression.Expr.TheVariants as variant
 use Rattle.sql_tree.specs.declared.expression.Expr.TheViews.{rolls-All, rolls-Any, rolls-OneOf}
-use Rattle.sql_tree.specs.declared.expression.Expr.TheFolds.{fold-roll-Expr, fold-roll-Exprs, fold-Exprs}
+use Rattle.sql_tree.specs.declared.expression.Expr.TheFolds.{fold-roll-Expr, fold-roll-Exprs}
+use Rattle.sql_tree.specs.declared.expression.Expr.TheFolds.{fold-Exprs}
 use Rattle.sql_tree.specs.declared.expression.Exprs.{Exprs}
 use Rattle.sql_tree.specs.declared.expression.Expr.TheOpen as node
 use Rattle.sql_tree.specs.declared.expression.Expr.TheShapes.{former-Exprs-members-at-2}
@@ -17,7 +18,9 @@ member_trees exprs = map tree_of (map (λ member. member.now) exprs.members.now)
 
 -- members through their references, and then each as a tree
 mapped : (rs : List (Bor Expr)) →
-    map (λ member. member.now) ((former-Exprs-members-at-2.map Expr Tree tree_of (record { ref_ptr = (0, 0); now = rs })).now)
+    map (λ member. member.now)
+    ((former-Exprs-members-at-2.map Expr Tree tree_of
+    (record { ref_ptr = (0, 0); now = rs })).now)
     ≡ map tree_of (map (λ member. member.now) rs)
 mapped [] = refl
 mapped (r ∷ rs) = ap (λ xs. tree_of r.now ∷ xs) (mapped rs)
@@ -40,7 +43,8 @@ tree_of-Any l =
     ∙ ap tree.Any (listed l)
 
 pub tree_of-OneOf : (negated : Bool) (x : Bor Expr) (l : Exprs) →
-    tree_of (variant.OneOf negated x l) ≡ tree.OneOf negated (tree_of x.now) (trees (member_trees l))
+    tree_of (variant.OneOf negated x l)
+    ≡ tree.OneOf negated (tree_of x.now) (trees (member_trees l))
 tree_of-OneOf negated x l =
     ap tree_of (sym (rolls-OneOf negated x l))
     ∙ fold-roll-Expr Tree Trees node_step list_step (node.OneOf negated x l)

@@ -38,7 +38,8 @@ find_among_letter :
     → find_word (b ∷ bs) (filter (begins_with (folded b)) ks) ≡ find_word (b ∷ bs) ks
 find_among_letter b bs [] = refl
 find_among_letter b bs (k ∷ ks) =
-    kept (begins_with (folded b) k) k (filter (begins_with (folded b)) ks) (b ∷ bs) (same_front b bs (word_of k))
+    kept (begins_with (folded b) k) k (filter (begins_with (folded b)) ks) (b ∷ bs)
+    (same_front b bs (word_of k))
     ∙ ap (λ r. cond (same_word (b ∷ bs) (word_of k)) (Some k) r) (find_among_letter b bs ks)
 
 -- a word is looked for among the keywords of its first letter

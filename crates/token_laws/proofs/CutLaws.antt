@@ -73,4 +73,5 @@ cut_within (suc n) (b ∷ bs) h =
     (piece_at (b ∷ bs) ∷ rest.0, (lies.0, lies.1, piece_first b bs, rest.1))
 
 pub cut_exists : (text : List ℕ) → (ps : List Piece) × IsCut text ps
-cut_exists text = let le : length text ≤ length text = omega arith in cut_within (length text) text le
+cut_exists text = let le : length text ≤ length text = omega arith in
+    cut_within (length text) text le

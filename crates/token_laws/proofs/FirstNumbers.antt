@@ -79,7 +79,8 @@ numbered_first b bs t = at _ (number_passes bs)
     k = prefix_len is_ascii_digit bs
 
     long : IsLongest numbered_parameter (b ∷ bs) (1 + k)
-    long = longest_is numbered_parameter (b ∷ bs) _ (byte_run (is 63) is_ascii_digit b bs ∙ rw t refl)
+    long = longest_is numbered_parameter (b ∷ bs) _
+        (byte_run (is 63) is_ascii_digit b bs ∙ rw t refl)
 
     digits : drop 1 (take (1 + k) (b ∷ bs)) ≡ take k bs
     digits = let one : 1 + k ≡ suc k = omega arith in ap (λ n. drop 1 (take n (b ∷ bs))) one

@@ -98,8 +98,10 @@ bracket_lies b bs = at (prefix_len (λ c. not (c == 93)) (b ∷ bs)) _ refl
     at :
         (n : ℕ) (v : Bool)
         → nat_lt n (suc (length bs)) ≡ v
-        → Lies (suc (length bs)) (cond v (token kind.Quoted (n + 1)) (token kind.Bad (suc (length bs))))
-    at n true e = let lt : n < suc (length bs) = grind (arith, e) in (omega arith, omega (arith, lt))
+        → Lies (suc (length bs))
+        (cond v (token kind.Quoted (n + 1)) (token kind.Bad (suc (length bs))))
+    at n true e = let lt : n < suc (length bs) = grind (arith, e) in
+        (omega arith, omega (arith, lt))
     at n false e = (omega arith, omega arith)
 
 number_lies :
@@ -140,7 +142,8 @@ begins_one_of :
 begins_one_of b c d [] h = absurd (cc)
 begins_one_of b c d (e ∷ es) h = omega arith
 
-arrow_within : (bs : List ℕ) → cond (begins 62 bs) (cond (begins 62 (drop 1 bs)) 3 2) 1 ≤ suc (length bs)
+arrow_within : (bs : List ℕ)
+    → cond (begins 62 bs) (cond (begins 62 (drop 1 bs)) 3 2) 1 ≤ suc (length bs)
 arrow_within [] = omega arith
 arrow_within (b ∷ []) = shorter 2 (b == 62) 2 1 (omega arith) (omega arith)
 arrow_within (b ∷ c ∷ bs) =

@@ -16,4 +16,5 @@ planned-requires-clause-keys c =
     let bound : bound_of c.in_ok-place_bound.field-0.now ≡ bound_statement c.args.schema.now tree =
     rw c.in_ok-place_bound.ensures c.requires.bound in
     ap (λ (b : Bound). b.keys) bound
-    ∙ ap (map (sort_key scope (results_in scope tree))) (unkeyed tree (rw (← c.is_not_built.ensures) c.if-is_not_built.false))
+    ∙ ap (map (sort_key scope (results_in scope tree)))
+    (unkeyed tree (rw (← c.is_not_built.ensures) c.if-is_not_built.false))

@@ -10,7 +10,8 @@ parse_text-requires c =
     fault_named c.args.text.now c.args.tokens.now _ _ refl c.in-Err.ensures.refused
     c.in-Err.ensures.otherwise
 
-pub returns-in_ok-parse_text-in-Err-clause-outcome : goal.returns-in_ok-parse_text-in-Err-clause-outcome
+pub returns-in_ok-parse_text-in-Err-clause-outcome :
+    goal.returns-in_ok-parse_text-in-Err-clause-outcome
 returns-in_ok-parse_text-in-Err-clause-outcome c =
     rw (
       refused_advice c.args.schema.now c.args.text.now c.args.tokens.now _ c.in-Err.fault

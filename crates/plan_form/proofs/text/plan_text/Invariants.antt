@@ -9,7 +9,8 @@ use Rattle.plan_form.proofs.text.plan_text.Given as goal
 abbrev pub invariant-loop-scan : goal.invariant-loop-scan
 invariant-loop-scan l =
     (l.text
-    ++ flat_map (λ s. scan_line (item_text l.schema (aliases_of l.plan.bound.now.items.now) (plan_of l.plan).bound s.item))
+    ++ flat_map (λ s. scan_line
+    (item_text l.schema (aliases_of l.plan.bound.now.items.now) (plan_of l.plan).bound s.item))
     (map loop_of (drop l.scan-index l.scan-items))
     ≡ plan_lines l.schema (aliases_of l.plan.bound.now.items.now) (plan_of l.plan))
     × AllByRecursion (λ s. s.item < length (plan_of l.plan).bound.items)

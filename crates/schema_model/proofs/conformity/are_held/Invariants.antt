@@ -5,4 +5,5 @@ use Rattle.schema_model.proofs.conformity.are_held.Given as goal
 
 abbrev pub invariant-loop-number : goal.invariant-loop-number
 invariant-loop-number l =
-    AreHeld (drop l.number l.columns) (map plain_value (drop l.number l.values)) ↔ AreHeld l.columns (map plain_value l.values)
+    AreHeld (drop l.number l.columns) (map plain_value (drop l.number l.values))
+    ↔ AreHeld l.columns (map plain_value l.values)

@@ -5,4 +5,5 @@ use Rattle.schema_model.proofs.conformity.are_rows.Given as goal
 
 abbrev pub invariant-loop-number : goal.invariant-loop-number
 invariant-loop-number l =
-    AreRows (drop l.number l.tables) (plain_database (drop l.number l.lists)) ↔ AreRows l.tables (plain_database l.lists)
+    AreRows (drop l.number l.tables) (plain_database (drop l.number l.lists))
+    ↔ AreRows l.tables (plain_database l.lists)

@@ -12,6 +12,8 @@ returns c =
     let schema = c.args.schema.now in
     let rows = c.args.tables.now in
     let tables = c.as_slice.ensures ∙ ap (λ (s : Schema). s.tables) c.schema.view_is in
-    let found = subst (λ (ts : List Table). (c.are_rows.result ≡ true) ↔ AreRows ts (plain_database c.as_slice-2.result.now)) tables c.are_rows.ensures in
-    let exact = subst (λ (rs : List (List Row)). (c.are_rows.result ≡ true) ↔ AreRows schema.tables (plain_database rs)) c.as_slice-2.ensures found in
+    let found = subst (λ (ts : List Table). (c.are_rows.result ≡ true)
+    ↔ AreRows ts (plain_database c.as_slice-2.result.now)) tables c.are_rows.ensures in
+    let exact = subst (λ (rs : List (List Row)). (c.are_rows.result ≡ true)
+    ↔ AreRows schema.tables (plain_database rs)) c.as_slice-2.ensures found in
     (λ e. rows_are_database schema rows (exact.0 e), λ d. exact.1 (database_has_rows schema rows d))

@@ -4,4 +4,5 @@ use Rattle.schema_model.specs.CreateTexts.{is_name_byte}
 use Rattle.schema_model.proofs.print.are_name_bytes.Given as goal
 
 abbrev pub invariant-loop-byte : goal.invariant-loop-byte
-invariant-loop-byte l = list_all is_name_byte l.bytes ≡ list_all is_name_byte (drop l.byte-index l.bytes)
+invariant-loop-byte l =
+    list_all is_name_byte l.bytes ≡ list_all is_name_byte (drop l.byte-index l.bytes)

@@ -8,7 +8,9 @@ loop-place-preserved c =
     record {
       same =
           l.invariant.same
-          ∙ next c.args.text.now c.args.rest.now l.level l.place _ l.last c.loop-place-test.true c.tokens_from.result.now c.tokens_from.ensures
-          c.collation_at_top.result c.collation_at_top.ensures c.later-last.result c.later-last.ensures c.next_level-level.result c.next_level-level.ensures.same;
+          ∙ next c.args.text.now c.args.rest.now l.level l.place _ l.last c.loop-place-test.true
+          c.tokens_from.result.now c.tokens_from.ensures
+          c.collation_at_top.result c.collation_at_top.ensures c.later-last.result
+          c.later-last.ensures c.next_level-level.result c.next_level-level.ensures.same;
       small = omega (arith, c.next_level-level.ensures.small, l.invariant.small);
     }

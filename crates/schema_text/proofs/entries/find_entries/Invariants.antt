@@ -4,4 +4,6 @@ use Rattle.schema_text.proofs.entries.find_entries.Given as goal
 
 abbrev pub invariant-loop-entry : goal.invariant-loop-entry
 invariant-loop-entry l =
-    key_columns l.text l.columns l.entries ≡ option_map (λ found. l.found ++ found) (key_columns l.text l.columns (drop l.entry-index l.entries))
+    key_columns l.text l.columns l.entries
+    ≡ option_map (λ found. l.found ++ found)
+    (key_columns l.text l.columns (drop l.entry-index l.entries))

@@ -4,6 +4,7 @@ use Rattle.schema_text.proofs.groups.close_place.Given as goal
 
 abbrev pub invariant-loop-place : goal.invariant-loop-place
 invariant-loop-place l = record {
-  same : close_place l.text 0 l.tokens ≡ option_map (λ n. n + l.place) (close_place l.text l.level (drop l.place l.tokens));
+  same : close_place l.text 0 l.tokens
+      ≡ option_map (λ n. n + l.place) (close_place l.text l.level (drop l.place l.tokens));
   small : l.level ≤ l.place;
 }

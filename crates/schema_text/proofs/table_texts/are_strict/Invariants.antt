@@ -5,4 +5,5 @@ use Rattle.schema_text.proofs.table_texts.are_strict.Given as goal
 
 abbrev pub invariant-loop-part : goal.invariant-loop-part
 invariant-loop-part l =
-    list_all (is_strict l.text) (map (λ part. part.now) l.parts) ≡ list_all (is_strict l.text) (map (λ part. part.now) (drop l.part-index l.parts))
+    list_all (is_strict l.text) (map (λ part. part.now) l.parts)
+    ≡ list_all (is_strict l.text) (map (λ part. part.now) (drop l.part-index l.parts))

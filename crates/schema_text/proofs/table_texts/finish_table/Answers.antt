@@ -10,9 +10,11 @@ pub returns-clause-sound : goal.returns-clause-sound
 returns-clause-sound c =
     let ok = alias_sound c.args.columns c.args.alias c.requires in
     let made = sym c.with_alias.ensures in
-    let within = subst (λ (cs : List Column). IsWithinOption c.args.alias (length cs)) c.as_slice.ensures (c.is_within.ensures c.if-not-is_within.false) in
+    let within = subst (λ (cs : List Column). IsWithinOption c.args.alias (length cs))
+    c.as_slice.ensures (c.is_within.ensures c.if-not-is_within.false) in
     record {
       few = subst (λ (cs : List Column). length cs ≤ 2000) made ok.few;
       differ = subst (λ (cs : List Column). Differ (column_names cs)) made ok.differ;
-      alias = subst (λ (n : ℕ). IsWithinOption c.args.alias n) (sym (sym (ap length made) ∙ alias_length c.args.columns c.args.alias)) within;
+      alias = subst (λ (n : ℕ). IsWithinOption c.args.alias n)
+          (sym (sym (ap length made) ∙ alias_length c.args.columns c.args.alias)) within;
     }

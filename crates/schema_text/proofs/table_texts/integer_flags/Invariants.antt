@@ -4,4 +4,5 @@ use Rattle.schema_text.proofs.table_texts.integer_flags.Given as goal
 
 abbrev pub invariant-loop-item : goal.invariant-loop-item
 invariant-loop-item l =
-    l.flags ++ integer_flags l.text (map (λ item. item.now) (drop l.item-index l.items)) ≡ integer_flags l.text (map (λ item. item.now) l.items)
+    l.flags ++ integer_flags l.text (map (λ item. item.now) (drop l.item-index l.items))
+    ≡ integer_flags l.text (map (λ item. item.now) l.items)

@@ -88,7 +88,8 @@ returns-in_err-keys-clause-answer c =
     exits _ c.from_residual-in_err-keys.result fault _ _ c.from_residual-in_err-keys.ensures.1
     (fails_keys scope tree fault p1 p2 p3 p4 (subst (Fails fault) keys c.in_err-keys.ensures))
 
-pub returns-then-as_slice-gt-MOST_TERMS-clause-answer : goal.returns-then-as_slice-gt-MOST_TERMS-clause-answer
+pub returns-then-as_slice-gt-MOST_TERMS-clause-answer :
+    goal.returns-then-as_slice-gt-MOST_TERMS-clause-answer
 returns-then-as_slice-gt-MOST_TERMS-clause-answer c =
     let scope = c.args.scope.now in
     let tree = statement_tree c.args.stmt.now in

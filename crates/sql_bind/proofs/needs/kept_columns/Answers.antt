@@ -3,7 +3,8 @@ use Rattle.sql_meaning.specs.OrderState.{is_alias}
 use Rattle.sql_bind.specs.Results.{alias_at, alias_of}
 use Rattle.sql_bind.proofs.Ranges.{kept_yes, kept_no}
 use Rattle.sql_bind.proofs.needs.kept_columns.Goals as goal
-use Rattle.sql_bind.proofs.needs.kept_columns.Goals.{then-not-is_alias+in_ok-push, else-not-is_alias}
+use Rattle.sql_bind.proofs.needs.kept_columns.Goals.{then-not-is_alias+in_ok-push}
+use Rattle.sql_bind.proofs.needs.kept_columns.Goals.{else-not-is_alias}
 
 pub loop-column-preserved : goal.loop-column-preserved
 loop-column-preserved c =

@@ -2,7 +2,8 @@ use Rattle.std.proofs.Common.{◌≤◌, ap, sym, ◌∙◌, arith, length, leng
 use Rattle.std.proofs.lemmas.List.{length-map}
 use Rattle.sql_tokens.specs.Terminals.{terminal_of}
 use Rattle.sql_lex.specs.Statements.{ends_trigger}
-use Rattle.sql_lex.proofs.StatementSteps.{trigger_turn, trigger_end, trigger_end_len, trigger_over, seen_rest}
+use Rattle.sql_lex.proofs.StatementSteps.{trigger_turn, trigger_end, trigger_end_len, trigger_over}
+use Rattle.sql_lex.proofs.StatementSteps.{seen_rest}
 use Rattle.sql_lex.proofs.statement_runs.trigger_run.Goals as goal
 
 pub loop-number-preserved : goal.loop-number-preserved

@@ -18,7 +18,8 @@ bind_all-returns-in_err-bound t c =
     let e = err_from_is_err_and c.from_residual.result c.from_residual.ensures.1 in
     rw (e.1, e.2)
     (fails_turn c.args.scope.now c.args.list.now.members.now c.loop-member.member-index _
-    c.in_err-bound.field-0.0 (first_failing (all_checks c.args.scope.now (trees_of c.args.list.now)))
+    c.in_err-bound.field-0.0
+    (first_failing (all_checks c.args.scope.now (trees_of c.args.list.now)))
     c.loop-member-test.true c.in_err-bound.ensures c.loop-member.invariant.checks)
 
 pub bind_all-loop-member-preserved : goal.bind_all-loop-member-preserved

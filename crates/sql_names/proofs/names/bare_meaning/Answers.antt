@@ -11,13 +11,15 @@ loop-item-preserved c =
     let lower = c.args.lower.now in
     elim c.match-column_in.branch [
       | in-Some+else-is_some w ↦
-          first_item (λ item. column_in item (table_at scope item) lower) (columns_named scope lower)
+          first_item (λ item. column_in item (table_at scope item) lower)
+          (columns_named scope lower)
           c.loop-item.item (length scope.items) c.count-item-end.result c.loop-item.found
           c.match-column_in.found c.column_in.result w.in-Some.column c.loop-item-test.true
           c.count-item-end.ensures.count c.column_in.ensures w.in-Some.is
           (sym w.is_some.ensures ∙ w.if-is_some.false) w.found-is c.loop-item.invariant
       | in_default w ↦
-          passed_item (λ item. column_in item (table_at scope item) lower) (columns_named scope lower)
+          passed_item (λ item. column_in item (table_at scope item) lower)
+          (columns_named scope lower)
           c.loop-item.item (length scope.items) c.count-item-end.result c.loop-item.found
           c.match-column_in.found c.column_in.result c.loop-item-test.true
           c.count-item-end.ensures.count c.column_in.ensures w.in_default.is w.found-is

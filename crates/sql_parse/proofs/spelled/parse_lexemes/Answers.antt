@@ -4,7 +4,8 @@ use Rattle.sql_parse.proofs.Whole.{read_is_spelled, spelled_is_read, not_spelled
 use Rattle.sql_parse.proofs.spelled.parse_lexemes.Goals as goal
 
 pub returns-in-Ok-clause-found : goal.returns-in-Ok-clause-found
-returns-in-Ok-clause-found c = read_is_spelled (seen c.args.lexemes.now) (statement_tree c.in-Ok.statement) c.in-Ok.ensures
+returns-in-Ok-clause-found c =
+    read_is_spelled (seen c.args.lexemes.now) (statement_tree c.in-Ok.statement) c.in-Ok.ensures
 
 pub returns-in-Ok-clause-only : goal.returns-in-Ok-clause-only
 returns-in-Ok-clause-only c = λ t s.

@@ -4,4 +4,6 @@ use Rattle.sql_parse.specs.TokenLexemes.{lexemes_from, lexemes_of}
 use Rattle.sql_parse.proofs.token_lexemes.lexemes.Given as goal
 
 abbrev pub invariant-loop-token : goal.invariant-loop-token
-invariant-loop-token l = seen l.list.items ++ lexemes_from l.text l.met (drop l.token-index l.tokens) ≡ lexemes_of l.text l.tokens
+invariant-loop-token l =
+    seen l.list.items ++ lexemes_from l.text l.met (drop l.token-index l.tokens)
+    ≡ lexemes_of l.text l.tokens

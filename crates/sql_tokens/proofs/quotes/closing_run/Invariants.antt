@@ -4,4 +4,7 @@ use Rattle.sql_tokens.proofs.quotes.closing_run.Given as goal
 
 abbrev pub invariant-loop-number : goal.invariant-loop-number
 invariant-loop-number l =
-    inside_len l.quote l.bytes ≡ option_map (λ n. n + l.number) (cond l.behind_quote (behind_quote_len l.quote (drop l.number l.bytes)) (inside_len l.quote (drop l.number l.bytes)))
+    inside_len l.quote l.bytes
+    ≡ option_map (λ n. n + l.number)
+    (cond l.behind_quote (behind_quote_len l.quote (drop l.number l.bytes))
+    (inside_len l.quote (drop l.number l.bytes)))

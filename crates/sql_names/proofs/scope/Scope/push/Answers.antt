@@ -8,8 +8,10 @@ use Rattle.sql_names.proofs.scope.Scope.push.Goals as goal
 
 pub invariant_of-self-in-Ok : goal.invariant_of-self-in-Ok
 invariant_of-self-in-Ok c =
-    let names : c.add.new.self ≡ c.self.inside.names ++ folded_bytes c.args.name.now ∷ [] = search rules in
-    let items : c.push.new.self.items ≡ c.self.inside.items.items ++ c.args.item ∷ [] = search rules in
+    let names : c.add.new.self ≡ c.self.inside.names ++ folded_bytes c.args.name.now ∷ [] =
+    search rules in
+    let items : c.push.new.self.items ≡ c.self.inside.items.items ++ c.args.item ∷ [] =
+    search rules in
     let free = rw (← c.self.view_is) at c.requires.free in
     let room = rw (← c.self.view_is) at c.requires.room in
     let table = rw (← c.self.view_is) at c.requires.table in

@@ -11,7 +11,10 @@ returns c =
     let none : number_named key.items (seen_names es) ≡ None =
     ap (λ name. number_named name (seen_names es)) c.in_ok-key.ensures
     ∙ ap (λ met. number_named c.args.name.now met.named) c.self.view_is ∙ c.requires in
-    ap (λ entries. met_with (record { greatest = c.self.inside.greatest; named = seen_names es }) (seen_names entries)) c.in-Ok.ensures.entries
-    ∙ ap (λ named. met_with (record { greatest = c.self.inside.greatest; named = seen_names es }) named) (added key n es none)
-    ∙ ap (λ name. met_with (record { greatest = c.self.inside.greatest; named = seen_names es }) (seen_names es ++ (name, n) ∷ [])) c.in_ok-key.ensures
+    ap (λ entries. met_with (record { greatest = c.self.inside.greatest; named = seen_names es })
+    (seen_names entries)) c.in-Ok.ensures.entries
+    ∙ ap (λ named. met_with (record { greatest = c.self.inside.greatest; named = seen_names es })
+    named) (added key n es none)
+    ∙ ap (λ name. met_with (record { greatest = c.self.inside.greatest; named = seen_names es })
+    (seen_names es ++ (name, n) ∷ [])) c.in_ok-key.ensures
     ∙ ap (λ met. met_with met (met.named ++ (c.args.name.now, n) ∷ [])) c.self.view_is

@@ -6,10 +6,12 @@ use Rattle.sql_parse.proofs.parameters.Parameters.find.Goals as goal
 
 pub returns-in-Some : goal.returns-in-Some
 returns-in-Some c =
-    ap option_copied (sym c.in-Some.is) ∙ c.get.ensures.value ∙ numbered c.args.name.now c.self.inside.named.entries
+    ap option_copied (sym c.in-Some.is) ∙ c.get.ensures.value
+    ∙ numbered c.args.name.now c.self.inside.named.entries
     ∙ ap (λ met. number_named c.args.name.now met.named) c.self.view_is
 
 pub returns-in-None : goal.returns-in-None
 returns-in-None c =
-    ap option_copied (sym c.in-None.is) ∙ c.get.ensures.value ∙ numbered c.args.name.now c.self.inside.named.entries
+    ap option_copied (sym c.in-None.is) ∙ c.get.ensures.value
+    ∙ numbered c.args.name.now c.self.inside.named.entries
     ∙ ap (λ met. number_named c.args.name.now met.named) c.self.view_is
