@@ -1,6 +1,6 @@
 -- What a name means (lang_expr, "Column Names"; lang_createtable, "ROWIDs and the INTEGER PRIMARY
 -- KEY"; lang_expr, "Boolean Expressions", for TRUE and FALSE).
-use Rattle.std.specs.Prelude.{ℕ, pos, ◌==◌, Bool, false, cond, Option, None, Some, option_map}
+use Rattle.std.specs.Prelude.{ℕ, pos, ◌==◌, Bool, cond, Option, None, Some, option_map}
 use Rattle.std.specs.Prelude.{List, [], ◌∷◌, ◌++◌, length, position, codes}
 use Rattle.std.specs.Option.{option_or}
 use Rattle.std.specs.List.{filter_map}

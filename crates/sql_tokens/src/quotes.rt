@@ -4,7 +4,7 @@ ghost use Rattle.sql_tokens.specs.Runs.{inside_len};
 ghost use Rattle.sql_tokens.specs.Pieces.{quoted_at, blob_at, bracket_at};
 
 use crate::pieces::{Piece, token_piece};
-use crate::runs::{begins, bracket_run, hex_run};
+use crate::runs::{bracket_run, hex_run};
 use crate::token::TokenKind;
 
 /// How many bytes there are up to and with the quote that closes; `None` where none does.
