@@ -1,5 +1,6 @@
 -- What the program answers and writes: a function of its words and of the files.
-use Rattle.std.specs.Prelude.{ℕ, ◌≡◌, ◌||◌, Bool, IsSomeAnd, List, [], ◌∷◌, ◌++◌, length, nat_eq, nat_lt}
+use Rattle.std.specs.Prelude.{ℕ, ◌≡◌, ◌||◌, Bool, IsSomeAnd, List, [], ◌∷◌, ◌++◌, length, nat_eq}
+use Rattle.std.specs.Prelude.{nat_lt}
 use Rattle.std.specs.Prelude.{None, Some, if◌then◌else◌, codes}
 use Rattle.std.specs.declared.option.Option.{Option}
 use Rattle.std.specs.List.{starts_with}

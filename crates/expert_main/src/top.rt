@@ -1,5 +1,6 @@
 //! The top call.
-ghost use Rattle.std.specs.Prelude.{◌≡◌, ◌≢◌, ◌↔◌, ◌<◌, ◌≤◌, ◌⊎◌, [], ◌∷◌, List, ℕ, None, OnOk, IfOk, IfErr, IfSome, IsSome, true, false};
+ghost use Rattle.std.specs.Prelude.{◌≡◌, ◌≢◌, ◌↔◌, ◌<◌, ◌≤◌, ◌⊎◌, [], ◌∷◌, List, ℕ, None, OnOk};
+ghost use Rattle.std.specs.Prelude.{IfOk, IfErr, IfSome, IsSome, true, false};
 ghost use Rattle.std.specs.Io.KnownBytes.{Appends};
 ghost use Rattle.expert_io.specs.Faults.{Rose, Stood};
 ghost use Rattle.expert_io.specs.Told.{Lacks};

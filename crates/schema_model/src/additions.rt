@@ -2,7 +2,8 @@
 //! given up.
 ghost use Rattle.std.specs.Prelude.{◌≡◌, ◌<◌, ◌^◌, false, OnOk, OnErr};
 ghost use Rattle.sql_meaning.specs.Letters.{folded_bytes};
-ghost use Rattle.schema_model.specs.Schemas.{is_taken, size, with_table, with_unread, with_index, IsTable, IsIndexOf};
+ghost use Rattle.schema_model.specs.Schemas.{is_taken, size, with_table, with_unread, with_index};
+ghost use Rattle.schema_model.specs.Schemas.{IsTable, IsIndexOf};
 
 use crate::indexes::Index;
 use crate::schema::Schema;

@@ -1,7 +1,8 @@
 //! Whether rows are a database of a schema. No call here takes memory.
 ghost use Rattle.std.specs.Prelude.{◌≡◌, ◌↔◌, true, map, option_map, slice_index_or};
 ghost use Rattle.std.specs.List.{AllByRecursion};
-ghost use Rattle.sql_meaning.specs.Conversions.{IsFixed, narrowed, widened, written, with_text_read};
+ghost use Rattle.sql_meaning.specs.Conversions.{IsFixed, narrowed, widened, written};
+ghost use Rattle.sql_meaning.specs.Conversions.{with_text_read};
 ghost use Rattle.sql_meaning.specs.Schemas.{AliasHolds, RisingRows};
 ghost use Rattle.sql_meaning.specs.Values as plain;
 ghost use Rattle.sql_meaning.specs.Values.{IsBytes, IsI64, IsValue};

@@ -1,5 +1,6 @@
 -- The indexes that PRIMARY KEY and UNIQUE make.
-use Rattle.std.specs.Prelude.{ℕ, ◌+◌, ◌==◌, Bool, true, false, cond, codes, nat_eq, decimal, List, [], ◌∷◌, ◌++◌, map, slice_get, Option, None, Some}
+use Rattle.std.specs.Prelude.{ℕ, ◌+◌, ◌==◌, Bool, true, false, cond, codes, nat_eq, decimal, List}
+use Rattle.std.specs.Prelude.{[], ◌∷◌, ◌++◌, map, slice_get, Option, None, Some}
 use Rattle.std.specs.List.{list_any}
 use Rattle.std.specs.Cmp.Lexicographic.{pointwise}
 use Rattle.sql_meaning.specs.Letters.{folded_bytes}

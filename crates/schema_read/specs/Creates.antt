@@ -1,5 +1,6 @@
 -- CREATE statements.
-use Rattle.std.specs.Prelude.{ℕ, Bool, true, false, cond, List, [], ◌∷◌, ◌++◌, length, slice_get, Option, None, Some, option_map, option_and_then}
+use Rattle.std.specs.Prelude.{ℕ, Bool, true, false, cond, List, [], ◌∷◌, ◌++◌, length, slice_get}
+use Rattle.std.specs.Prelude.{Option, None, Some, option_map, option_and_then}
 use Rattle.sql_meaning.specs.Letters.{folded_bytes}
 use Rattle.sql_tokens.specs.TokenValues.{value_of}
 use Rattle.sql_tokens.specs.declared.token.Token.{Token}

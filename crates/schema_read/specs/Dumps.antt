@@ -7,7 +7,8 @@ use Rattle.sql_lex.specs.declared.statement_runs.Span.{Span}
 use Rattle.schema_model.specs.PlainSchemas.{plain_database}
 use Rattle.schema_model.specs.Schemas.{Schema}
 use Rattle.schema_text.specs.Cursor.{Named}
-use Rattle.schema_text.specs.Heads.{IndexHead, create_table_head, create_unread_head, create_index_head}
+use Rattle.schema_text.specs.Heads.{IndexHead, create_table_head, create_unread_head}
+use Rattle.schema_text.specs.Heads.{create_index_head}
 use Rattle.schema_read.specs.States as states
 use Rattle.schema_read.specs.States.{pass_statement}
 use Rattle.schema_read.specs.Creates.{apply_table, apply_unread, apply_index}

@@ -1,5 +1,6 @@
 -- The entries of INSERT.
-use Rattle.std.specs.Prelude.{ℕ, Bool, true, false, cond, codes, List, [], ◌∷◌, Option, None, Some, option_map}
+use Rattle.std.specs.Prelude.{ℕ, Bool, true, false, cond, codes, List, [], ◌∷◌, Option, None, Some}
+use Rattle.std.specs.Prelude.{option_map}
 use Rattle.sql_meaning.specs.Values.{Value, Null, Text, Blob}
 use Rattle.sql_meaning.specs.Conversions.{converted}
 use Rattle.sql_value.specs.View.{plain_affinity}

@@ -1,5 +1,6 @@
 -- INSERT statements.
-use Rattle.std.specs.Prelude.{ℕ, ℤ, Bool, cond, codes, List, [], ◌∷◌, ◌++◌, slice_get, slice_set, slice_index_or, Option, None, Some, option_and_then}
+use Rattle.std.specs.Prelude.{ℕ, ℤ, Bool, cond, codes, List, [], ◌∷◌, ◌++◌, slice_get, slice_set}
+use Rattle.std.specs.Prelude.{slice_index_or, Option, None, Some, option_and_then}
 use Rattle.sql_meaning.specs.Letters.{folded_bytes}
 use Rattle.sql_meaning.specs.Values.{Value, Null, Int, Text}
 use Rattle.sql_value.specs.Keywords.{same_word}

@@ -1,5 +1,6 @@
 //! Rows while they are read: each is found by its rowid, and all stand by rising rowid.
-ghost use Rattle.std.specs.Prelude.{◌≡◌, ◌++◌, ◌∷◌, [], map, slice_index_or, slice_set, OnOk, OnErr, IfOk};
+ghost use Rattle.std.specs.Prelude.{◌≡◌, ◌++◌, ◌∷◌, [], map, slice_index_or, slice_set, OnOk};
+ghost use Rattle.std.specs.Prelude.{OnErr, IfOk};
 ghost use Rattle.sql_value.specs.View.{plain_value};
 ghost use Rattle.schema_model.specs.PlainSchemas.{plain_rows, plain_database};
 ghost use Rattle.schema_read.specs.Rows.{has_rowid, next_rowid, insert_row};

@@ -1,5 +1,7 @@
 -- Columns of CREATE TABLE.
-use Rattle.std.specs.Prelude.{ℕ, ◌+◌, ◌-◌, ◌==◌, ◌&&◌, ◌||◌, Bool, true, false, cond, codes, List, [], ◌∷◌, length, take, drop, slice_get, Option, None, Some, option_map, option_and_then}
+use Rattle.std.specs.Prelude.{ℕ, ◌+◌, ◌-◌, ◌==◌, ◌&&◌, ◌||◌, Bool, true, false, cond, codes, List}
+use Rattle.std.specs.Prelude.{[], ◌∷◌, length, take, drop, slice_get, Option, None, Some}
+use Rattle.std.specs.Prelude.{option_map, option_and_then}
 use Rattle.sql_meaning.specs.DeclaredTypes.{affinity_of}
 use Rattle.sql_meaning.specs.Values as plain
 use Rattle.sql_value.specs.Collations.{collation_named}

@@ -1,5 +1,6 @@
 -- Reading tokens from the front.
-use Rattle.std.specs.Prelude.{ℕ, ◌&&◌, cond, codes, List, [], ◌∷◌, Option, None, Some, unwrap_or, option_and_then}
+use Rattle.std.specs.Prelude.{ℕ, ◌&&◌, cond, codes, List, [], ◌∷◌, Option, None, Some, unwrap_or}
+use Rattle.std.specs.Prelude.{option_and_then}
 use Rattle.sql_tokens.specs.declared.token.Token.{Token}
 use Rattle.schema_text.specs.Words.{is_word, is_mark, is_name}
 use Rattle.schema_text.specs.declared.cursor.Named as code

@@ -1,5 +1,7 @@
 -- Entries of the lists of columns in keys and indexes.
-use Rattle.std.specs.Prelude.{ℕ, ◌&&◌, Bool, true, false, cond, codes, List, [], ◌∷◌, position, Option, None, Some, is_some, unwrap_or, option_map, option_and_then, if◌then◌else◌}
+use Rattle.std.specs.Prelude.{ℕ, ◌&&◌, Bool, true, false, cond, codes, List, [], ◌∷◌, position}
+use Rattle.std.specs.Prelude.{Option, None, Some, is_some, unwrap_or, option_map, option_and_then}
+use Rattle.std.specs.Prelude.{if◌then◌else◌}
 use Rattle.sql_meaning.specs.Letters.{folded_bytes}
 use Rattle.sql_value.specs.declared.values.Collation.{Collation}
 use Rattle.sql_tokens.specs.TokenValues.{value_of}

@@ -1,5 +1,6 @@
 -- Parentheses, and lists with commas.
-use Rattle.std.specs.Prelude.{ℕ, ◌+◌, ◌-◌, ◌==◌, ◌&&◌, Bool, cond, List, [], ◌∷◌, take, drop, Option, None, Some, option_map}
+use Rattle.std.specs.Prelude.{ℕ, ◌+◌, ◌-◌, ◌==◌, ◌&&◌, Bool, cond, List, [], ◌∷◌, take, drop}
+use Rattle.std.specs.Prelude.{Option, None, Some, option_map}
 use Rattle.sql_tokens.specs.declared.token.Token.{Token}
 use Rattle.schema_text.specs.Words.{is_mark}
 use Rattle.schema_text.specs.declared.groups.Enclosed as code

@@ -1,7 +1,9 @@
 -- The fronts of CREATE statements.
-use Rattle.std.specs.Prelude.{ℕ, Bool, true, false, codes, List, [], ◌∷◌, Option, None, Some, option_and_then, option_map}
+use Rattle.std.specs.Prelude.{ℕ, Bool, true, false, codes, List, [], ◌∷◌, Option, None, Some}
+use Rattle.std.specs.Prelude.{option_and_then, option_map}
 use Rattle.sql_tokens.specs.declared.token.Token.{Token}
-use Rattle.schema_text.specs.Cursor.{Named, after_word, past_temporary, past_if_not_exists, first_name, qualified_name}
+use Rattle.schema_text.specs.Cursor.{Named, after_word, past_temporary, past_if_not_exists}
+use Rattle.schema_text.specs.Cursor.{first_name, qualified_name}
 use Rattle.schema_text.specs.Groups.{first_enclosed}
 use Rattle.schema_text.specs.declared.heads.IndexHead as code
 

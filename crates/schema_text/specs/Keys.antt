@@ -1,5 +1,6 @@
 -- PRIMARY KEY and UNIQUE, of a column or of a table.
-use Rattle.std.specs.Prelude.{ℕ, ◌+◌, ◌==◌, ◌&&◌, Bool, true, false, cond, codes, List, [], ◌∷◌, ◌++◌, Option, None, Some, option_map, option_and_then}
+use Rattle.std.specs.Prelude.{ℕ, ◌+◌, ◌==◌, ◌&&◌, Bool, true, false, cond, codes, List, [], ◌∷◌}
+use Rattle.std.specs.Prelude.{◌++◌, Option, None, Some, option_map, option_and_then}
 use Rattle.sql_value.specs.declared.keywords.Keyword.{Keyword}
 use Rattle.sql_value.specs.declared.keywords.Keyword.TheVariants as keyword
 use Rattle.sql_tokens.specs.Terminals.{terminal_of}

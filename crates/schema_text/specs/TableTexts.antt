@@ -1,5 +1,7 @@
 -- CREATE TABLE from its name on.
-use Rattle.std.specs.Prelude.{ℕ, ◌&&◌, ◌||◌, Bool, true, false, not, cond, codes, nat_le, nat_lt, count_by, List, [], ◌∷◌, ◌++◌, length, position, slice_get, Option, None, Some, is_some, unwrap_or, option_and_then}
+use Rattle.std.specs.Prelude.{ℕ, ◌&&◌, ◌||◌, Bool, true, false, not, cond, codes, nat_le, nat_lt}
+use Rattle.std.specs.Prelude.{count_by, List, [], ◌∷◌, ◌++◌, length, position, slice_get, Option}
+use Rattle.std.specs.Prelude.{None, Some, is_some, unwrap_or, option_and_then}
 use Rattle.std.specs.List.{list_all, list_any}
 use Rattle.sql_meaning.specs.Letters.{folded_bytes}
 use Rattle.sql_value.specs.Keywords.{same_word}

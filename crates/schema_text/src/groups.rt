@@ -1,5 +1,6 @@
 //! Parentheses, and lists with commas.
-ghost use Rattle.std.specs.Prelude.{◌≡◌, ◌+◌, ◌-◌, ◌<◌, ◌≤◌, ◌^◌, ◌==◌, ◌&&◌, length, map, option_map, IfOk, IfSome, take, drop};
+ghost use Rattle.std.specs.Prelude.{◌≡◌, ◌+◌, ◌-◌, ◌<◌, ◌≤◌, ◌^◌, ◌==◌, ◌&&◌, length, map};
+ghost use Rattle.std.specs.Prelude.{option_map, IfOk, IfSome, take, drop};
 ghost use Rattle.schema_text.specs.Groups as meant;
 
 use crate::cursor::tokens_from;

@@ -1,5 +1,6 @@
 //! PRIMARY KEY and UNIQUE, of a column or of a table.
-ghost use Rattle.std.specs.Prelude.{◌≡◌, ◌+◌, ◌<◌, ◌≤◌, ◌^◌, ◌++◌, ◌-◌, length, map, option_map, Some, None, OnOk, IfOk, if◌then◌else◌};
+ghost use Rattle.std.specs.Prelude.{◌≡◌, ◌+◌, ◌<◌, ◌≤◌, ◌^◌, ◌++◌, ◌-◌, length, map, option_map};
+ghost use Rattle.std.specs.Prelude.{Some, None, OnOk, IfOk, if◌then◌else◌};
 ghost use Rattle.schema_text.specs.Keys as meant;
 
 use crate::column_texts::column_rest;

@@ -1,5 +1,6 @@
 //! CREATE TABLE from its name on.
-ghost use Rattle.std.specs.Prelude.{◌≡◌, ◌++◌, map, count_by, true, Some, None, OnOk, IfOk, if◌then◌else◌};
+ghost use Rattle.std.specs.Prelude.{◌≡◌, ◌++◌, map, count_by, true, Some, None, OnOk, IfOk};
+ghost use Rattle.std.specs.Prelude.{if◌then◌else◌};
 ghost use Rattle.std.specs.List.{list_all};
 ghost use Rattle.schema_text.specs.Cursor.{seen_named};
 ghost use Rattle.schema_model.specs.Schemas.{IsTable, IsWithinOption};

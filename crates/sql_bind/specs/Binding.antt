@@ -11,7 +11,8 @@ use Rattle.sql_bind.specs.Clauses.{sources_of, entries_of, sets_of, filter_of, k
 use Rattle.sql_bind.specs.Clauses.{limit_of, offset_of, changes_rows}
 use Rattle.sql_bind.specs.Sources.{from_checks, scope_of}
 use Rattle.sql_bind.specs.Results.{ResultColumn, entry_checks, result_columns}
-use Rattle.sql_bind.specs.Conditions.{conditions, on_checks, condition_checks, conjuncts_in, set_checks}
+use Rattle.sql_bind.specs.Conditions.{conditions, on_checks, condition_checks, conjuncts_in}
+use Rattle.sql_bind.specs.Conditions.{set_checks}
 use Rattle.sql_bind.specs.Conditions.{count_of_terms_check}
 use Rattle.sql_bind.specs.Keys.{key_checks, sort_key}
 use Rattle.sql_bind.specs.Needs.{needs_in}

@@ -1,5 +1,6 @@
 //! Binding a statement.
-ghost use Rattle.std.specs.Prelude.{◌≡◌, ◌<◌, length, map, option_map, None, Some, IfOk, OnOk, IfErr};
+ghost use Rattle.std.specs.Prelude.{◌≡◌, ◌<◌, length, map, option_map, None, Some, IfOk, OnOk};
+ghost use Rattle.std.specs.Prelude.{IfErr};
 ghost use Rattle.sql_tree.specs.Statements.{statement_tree};
 ghost use Rattle.schema_model.specs.PlainSchemas.{plain_schema};
 ghost use Rattle.sql_bound.specs.Fits.{Fits};

@@ -1,7 +1,8 @@
 //! The clauses of a statement, whichever it is: a clause that it doesn't have is empty.
 ghost use Rattle.std.specs.Prelude.{◌≡◌, map, option_map};
 ghost use Rattle.sql_tree.specs.Trees.{tree_of};
-ghost use Rattle.sql_tree.specs.Statements.{source_tree, item_tree, set_tree, key_tree, statement_tree};
+ghost use Rattle.sql_tree.specs.Statements.{source_tree, item_tree, set_tree, key_tree};
+ghost use Rattle.sql_tree.specs.Statements.{statement_tree};
 ghost use Rattle.sql_bound.specs.Statements.{cut_of};
 ghost use Rattle.sql_bind.specs.Clauses as meant;
 

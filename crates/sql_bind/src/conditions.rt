@@ -1,12 +1,14 @@
 //! ON, WHERE and SET.
-ghost use Rattle.std.specs.Prelude.{◌≡◌, ◌<◌, ◌++◌, ◌∷◌, [], length, map, flat_map, option_map, OnOk};
+ghost use Rattle.std.specs.Prelude.{◌≡◌, ◌<◌, ◌++◌, ◌∷◌, [], length, map, flat_map, option_map};
+ghost use Rattle.std.specs.Prelude.{OnOk};
 ghost use Rattle.sql_meaning.specs.Expressions.{flat, flat_all};
 ghost use Rattle.sql_tree.specs.Trees.{tree_of};
 ghost use Rattle.sql_tree.specs.Statements.{source_tree, set_tree};
 ghost use Rattle.sql_bound.specs.Expressions.{expr_of, members_of};
 ghost use Rattle.sql_bound.specs.Statements.{conjunct_of};
 ghost use Rattle.sql_names.specs.Faults.{Answers};
-ghost use Rattle.sql_bind.specs.Conditions.{unowned, terms_of, on_terms, on_checks, condition_checks};
+ghost use Rattle.sql_bind.specs.Conditions.{unowned, terms_of, on_terms, on_checks};
+ghost use Rattle.sql_bind.specs.Conditions.{condition_checks};
 ghost use Rattle.sql_bind.specs.Conditions.{set_checks, target_check};
 
 use bumpalo::Bump;

@@ -1,5 +1,6 @@
 //! ORDER BY.
-ghost use Rattle.std.specs.Prelude.{◌≡◌, ◌++◌, ◌∷◌, [], List, Some, map, flat_map, option_map, IfOk, OnOk};
+ghost use Rattle.std.specs.Prelude.{◌≡◌, ◌++◌, ◌∷◌, [], List, Some, map, flat_map, option_map};
+ghost use Rattle.std.specs.Prelude.{IfOk, OnOk};
 ghost use Rattle.sql_meaning.specs.Letters.{folded_bytes};
 ghost use Rattle.sql_tree.specs.Trees.{tree_of, literal_value};
 ghost use Rattle.sql_tree.specs.Trees as tree;

@@ -1,5 +1,6 @@
 //! The columns that a statement needs of each item.
-ghost use Rattle.std.specs.Prelude.{◌≡◌, ◌<◌, ◌++◌, ◌∷◌, ◌==◌, ◌&&◌, ◌^◌, [], map, length, replicate, false, IfOk, OnOk};
+ghost use Rattle.std.specs.Prelude.{◌≡◌, ◌<◌, ◌++◌, ◌∷◌, ◌==◌, ◌&&◌, ◌^◌, [], map, length};
+ghost use Rattle.std.specs.Prelude.{replicate, false, IfOk, OnOk};
 ghost use Rattle.std.specs.List.{list_any, range_with_len};
 ghost use Rattle.sql_bound.specs.Expressions.{expr_of, members_of};
 ghost use Rattle.sql_bound.specs.Statements.{conjunct_of, sort_key_of};

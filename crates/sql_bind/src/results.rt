@@ -1,5 +1,6 @@
 //! The result list.
-ghost use Rattle.std.specs.Prelude.{◌≡◌, ◌<◌, ◌++◌, ◌∷◌, [], length, map, flat_map, option_map, codes, IfOk, OnOk};
+ghost use Rattle.std.specs.Prelude.{◌≡◌, ◌<◌, ◌++◌, ◌∷◌, [], length, map, flat_map, option_map};
+ghost use Rattle.std.specs.Prelude.{codes, IfOk, OnOk};
 ghost use Rattle.sql_tree.specs.Trees.{tree_of};
 ghost use Rattle.sql_tree.specs.Statements.{item_tree};
 ghost use Rattle.sql_tree.specs.Statements.{TableStar};

@@ -1,6 +1,7 @@
 -- The statements of a text.
 use Rattle.std.specs.Prelude.{ℕ, zero, suc, ◌+◌, ◌-◌, Bool, not, ◌==◌, ◌&&◌, ◌||◌, cond}
-use Rattle.std.specs.Prelude.{Some, List, [], ◌∷◌, ◌++◌, map, slice_get, slice_range, length, nat_le}
+use Rattle.std.specs.Prelude.{Some, List, [], ◌∷◌, ◌++◌, map, slice_get, slice_range, length}
+use Rattle.std.specs.Prelude.{nat_le}
 use Rattle.std.specs.List.{prefix_len}
 use Rattle.sql_value.specs.declared.keywords.Keyword.TheVariants as keyword
 use Rattle.sql_tokens.specs.Terminals.{terminal_of}

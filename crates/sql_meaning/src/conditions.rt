@@ -1,6 +1,7 @@
 //! Laws of conditions (SQLite's lang_expr and optoverview), each on a function that does nothing.
 
-ghost use Rattle.sql_meaning.specs.ConditionLaws.{ConjunctsSayTheirConditions, ValuesDependOnNamedItems};
+ghost use Rattle.sql_meaning.specs.ConditionLaws.{ConjunctsSayTheirConditions};
+ghost use Rattle.sql_meaning.specs.ConditionLaws.{ValuesDependOnNamedItems};
 
 /// An expression has the same value under assignments that agree on the items that it names. So a
 /// conjunct may be tested as soon as these are placed.

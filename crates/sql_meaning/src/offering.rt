@@ -2,7 +2,8 @@
 //! nothing: what is chosen is an offer, so the laws of walks and plans hold of it.
 
 ghost use Rattle.sql_meaning.specs.ChoiceLaws.{IndexScansAreOffers, IndexSeeksAreOffers};
-ghost use Rattle.sql_meaning.specs.ChoiceLaws.{RowidSeeksAreOffers, TableScansAreOffers, UnionsAreOffers};
+ghost use Rattle.sql_meaning.specs.ChoiceLaws.{RowidSeeksAreOffers, TableScansAreOffers};
+ghost use Rattle.sql_meaning.specs.ChoiceLaws.{UnionsAreOffers};
 
 /// A scan of the table or of an index is an offer for each item that isn't placed; and so are the
 /// seek by rowid and the seek by an index that are chosen of an item's terms, and a union with a

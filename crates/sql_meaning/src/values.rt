@@ -1,8 +1,10 @@
 //! Laws of values.
-ghost use Rattle.std.specs.Prelude.{◌≡◌, ◌<◌, ◌^◌, ◌++◌, ◌↔◌, ℕ, ℤ, List, nat_abs, true, length, Some};
+ghost use Rattle.std.specs.Prelude.{◌≡◌, ◌<◌, ◌^◌, ◌++◌, ◌↔◌, ℕ, ℤ, List, nat_abs, true, length};
+ghost use Rattle.std.specs.Prelude.{Some};
 ghost use Rattle.std.specs.Cmp.{IsTotalOrder};
 ghost use Rattle.std.specs.Fmt.{signed_decimal};
-ghost use Rattle.sql_meaning.specs.Values.{Value, Null, Int, Dec, Text, Blob, Collation, Affinity, value_cmp, Before, Same, IsI64, IsValue};
+ghost use Rattle.sql_meaning.specs.Values.{Value, Null, Int, Dec, Text, Blob, Collation, Affinity};
+ghost use Rattle.sql_meaning.specs.Values.{value_cmp, Before, Same, IsI64, IsValue};
 ghost use Rattle.sql_meaning.specs.Numbers.{ReadsAs, read_number, dec_text};
 ghost use Rattle.sql_meaning.specs.Conversions.{converted, with_text_read, IsFixed, is_numeric};
 ghost use Rattle.sql_meaning.specs.DeclaredTypes.{holds_word};

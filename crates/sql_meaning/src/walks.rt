@@ -3,7 +3,8 @@
 //! item may have the missing row.
 
 ghost use Rattle.sql_meaning.specs.PathLaws.{ConsumedConjunctsHold, IndexListsAreSorted};
-ghost use Rattle.sql_meaning.specs.PathLaws.{UnionsHaveEachRowOnce, UnionsMissNoRow, WalksAreFilters};
+ghost use Rattle.sql_meaning.specs.PathLaws.{UnionsHaveEachRowOnce, UnionsMissNoRow};
+ghost use Rattle.sql_meaning.specs.PathLaws.{WalksAreFilters};
 
 /// The list of an index has each row of its table once, in the order of the index's columns.
 pub fn index_lists_are_sorted()

@@ -1,5 +1,6 @@
 -- The numbers of parameters (lang_expr, "parameters").
-use Rattle.std.specs.Prelude.{ℕ, ◌+◌, ◌==◌, max, Bool, cond, Option, None, Some, unwrap_or, List, [], ◌∷◌, ◌++◌, nat_eq}
+use Rattle.std.specs.Prelude.{ℕ, ◌+◌, ◌==◌, max, Bool, cond, Option, None, Some, unwrap_or, List}
+use Rattle.std.specs.Prelude.{[], ◌∷◌, ◌++◌, nat_eq}
 use Rattle.std.specs.Cmp.Lexicographic.{pointwise}
 use Rattle.sql_meaning.specs.Numbers.{digits_up_to}
 

@@ -1,5 +1,6 @@
 -- Which refusal a statement meets, before its grammar is asked.
-use Rattle.std.specs.Prelude.{ℕ, Bool, true, false, not, ◌||◌, cond, nat_lt, is_some, Option, None, Some, option_and_then, List, [], ◌∷◌}
+use Rattle.std.specs.Prelude.{ℕ, Bool, true, false, not, ◌||◌, cond, nat_lt, is_some, Option, None}
+use Rattle.std.specs.Prelude.{Some, option_and_then, List, [], ◌∷◌}
 use Rattle.sql_tokens.specs.declared.number_values.Number.{Number}
 use Rattle.sql_tokens.specs.declared.symbols.Symbol.TheVariants as symbol
 use Rattle.sql_tokens.specs.declared.terminal.Terminal.{Terminal}

@@ -1,6 +1,7 @@
 //! The numbers of parameters.
 ghost use Rattle.std.specs.Prelude.{◌≡◌, ◌+◌, ◌++◌, ◌∷◌, [], None, unwrap_or, IfOk, OnOk};
-ghost use Rattle.sql_parse.specs.Parameters.{no_parameters, number_named, parameter_number, met_behind};
+ghost use Rattle.sql_parse.specs.Parameters.{no_parameters, number_named, parameter_number};
+ghost use Rattle.sql_parse.specs.Parameters.{met_behind};
 ghost use Rattle.sql_parse.specs.Parameters.{with_name};
 
 use indexmap::IndexMap;

@@ -1,5 +1,6 @@
 //! A statement's tree, or why it is refused.
-ghost use Rattle.std.specs.Prelude.{◌≡◌, ◌<◌, ◌^◌, length, None, Some, IfOk, IfErr, MatchResult, ◌⊎◌};
+ghost use Rattle.std.specs.Prelude.{◌≡◌, ◌<◌, ◌^◌, length, None, Some, IfOk, IfErr, MatchResult};
+ghost use Rattle.std.specs.Prelude.{◌⊎◌};
 ghost use Rattle.sql_tree.specs.Statements.{StatementTree, statement_tree};
 ghost use Rattle.sql_parse.specs.Refusals.{is_bad_kind, has_bad, first_refusal};
 ghost use Rattle.sql_parse.specs.Statements.{IsSpelled};

@@ -1,5 +1,6 @@
 -- Expressions that hold no other: constants, parameters, names.
-use Rattle.std.specs.Prelude.{ℕ, ℤ, pos, neg_ℤ, ◌^◌, Bool, true, false, cond, nat_lt, nat_le, Option, None, Some, List, [], ◌∷◌}
+use Rattle.std.specs.Prelude.{ℕ, ℤ, pos, neg_ℤ, ◌^◌, Bool, true, false, cond, nat_lt, nat_le}
+use Rattle.std.specs.Prelude.{Option, None, Some, List, [], ◌∷◌}
 use Rattle.sql_tree.specs.Trees.{Tree}
 use Rattle.sql_tree.specs.Trees as tree
 use Rattle.sql_meaning.specs.Values as value

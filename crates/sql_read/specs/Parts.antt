@@ -1,5 +1,6 @@
 -- The parts of a statement around its expressions, each over a reader of expressions.
-use Rattle.std.specs.Prelude.{ℕ, Bool, true, false, Option, None, Some, List, [], ◌∷◌, if◌then◌else◌}
+use Rattle.std.specs.Prelude.{ℕ, Bool, true, false, Option, None, Some, List, [], ◌∷◌}
+use Rattle.std.specs.Prelude.{if◌then◌else◌}
 use Rattle.sql_tree.specs.Trees.{Tree}
 use Rattle.sql_tree.specs.Statements.{SourceTree, ItemTree, KeyTree, SetTree}
 use Rattle.sql_tree.specs.Statements as item

@@ -1,5 +1,6 @@
 -- Reading: from a list of lexemes what stands at its front and the lexemes behind that, or nothing.
-use Rattle.std.specs.Prelude.{◌≡◌, ℕ, suc, zero, Bool, Option, None, Some, Result, Ok, Err, List, [], ◌∷◌, ◌++◌, length, if◌then◌else◌}
+use Rattle.std.specs.Prelude.{◌≡◌, ℕ, suc, zero, Bool, Option, None, Some, Result, Ok, Err, List}
+use Rattle.std.specs.Prelude.{[], ◌∷◌, ◌++◌, length, if◌then◌else◌}
 use denote.Enum.Bare.{sameb}
 use Rattle.sql_read.specs.contracts.lexeme.Mark.{the_type}
 use Rattle.sql_read.specs.declared.lexeme.Mark.{Mark}

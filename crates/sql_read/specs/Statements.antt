@@ -1,13 +1,15 @@
 -- Whole statements.
 use Rattle.std.specs.Prelude.{false, Option, None, Some, List, [], ◌∷◌, length}
 use Rattle.sql_tree.specs.Trees.{Tree}
-use Rattle.sql_tree.specs.Statements.{SourceTree, ItemTree, KeyTree, SetTree, SelectTree, UpdateTree, DeleteTree, StatementTree}
+use Rattle.sql_tree.specs.Statements.{SourceTree, ItemTree, KeyTree, SetTree, SelectTree}
+use Rattle.sql_tree.specs.Statements.{UpdateTree, DeleteTree, StatementTree}
 use Rattle.sql_tree.specs.Statements as statement
 use Rattle.sql_read.specs.declared.lexeme.Mark.TheVariants as mark
 use Rattle.sql_read.specs.Lexemes.{Lexeme}
 use Rattle.sql_read.specs.Reading.{◌>>=◌, branch, Reader, after, list_at}
 use Rattle.sql_read.specs.Expressions.{below, expr_at}
-use Rattle.sql_read.specs.Parts.{Cuts, optional_at, item_at, source_at, join_at, join_begins, keys_at, cuts_at, set_at}
+use Rattle.sql_read.specs.Parts.{Cuts, optional_at, item_at, source_at, join_at, join_begins}
+use Rattle.sql_read.specs.Parts.{keys_at, cuts_at, set_at}
 
 unfoldable pub items_at : Reader Tree → Reader (List ItemTree)
 items_at e = list_at (item_at e) (after mark.Comma) (item_at e)

@@ -7,8 +7,10 @@ ghost use Rattle.std.specs.Prelude.{[], map};
 ghost use Rattle.sql_tree.specs.Trees.{Tree, tree_of};
 ghost use Rattle.sql_read.specs.Lexemes.{seen};
 ghost use Rattle.sql_read.specs.Reading.{Gives, after, list_at};
-ghost use Rattle.sql_read.specs.Expressions.{below, expr_at, and_at, not_at, test_at, tested_at, one_of_at};
-ghost use Rattle.sql_read.specs.Expressions.{between_at, entries_at, right_at, operand_at, primary_at, enclosed_at};
+ghost use Rattle.sql_read.specs.Expressions.{below, expr_at, and_at, not_at, test_at, tested_at};
+ghost use Rattle.sql_read.specs.Expressions.{one_of_at};
+ghost use Rattle.sql_read.specs.Expressions.{between_at, entries_at, right_at, operand_at};
+ghost use Rattle.sql_read.specs.Expressions.{primary_at, enclosed_at};
 ghost use Rattle.sql_read.specs.Expressions.{member_at, joint_mark};
 
 use crate::cursor::{Left, after_mark};

@@ -1,7 +1,8 @@
 //! Which test begins behind its first operand.
 ghost use Rattle.std.specs.Prelude.{◌≡◌, MatchOption};
 ghost use Rattle.sql_read.specs.Lexemes.{seen};
-ghost use Rattle.sql_read.specs.Expressions.{op_at, null_at, is_at, null_test_at, range_at, follow_at, joint_mark};
+ghost use Rattle.sql_read.specs.Expressions.{op_at, null_at, is_at, null_test_at, range_at};
+ghost use Rattle.sql_read.specs.Expressions.{follow_at, joint_mark};
 
 use crate::cursor::{Left, after_mark};
 use crate::lexeme::Mark;

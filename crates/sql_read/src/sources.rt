@@ -5,7 +5,8 @@ ghost use Rattle.sql_tree.specs.Statements.{SourceTree, source_tree};
 ghost use Rattle.sql_read.specs.Lexemes.{seen};
 ghost use Rattle.sql_read.specs.Reading.{Gives};
 ghost use Rattle.sql_read.specs.Expressions.{below, expr_at};
-ghost use Rattle.sql_read.specs.Parts.{optional_at, source_at, joined_source_at, join_at, join_begins};
+ghost use Rattle.sql_read.specs.Parts.{optional_at, source_at, joined_source_at, join_at};
+ghost use Rattle.sql_read.specs.Parts.{join_begins};
 ghost use Rattle.sql_read.specs.Statements.{sources_at};
 
 use crate::cursor::{Left, after_mark, name};

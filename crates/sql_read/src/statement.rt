@@ -1,11 +1,13 @@
 //! Whole statements: SELECT, UPDATE, DELETE.
 ghost use Rattle.std.specs.Prelude.{◌≡◌, map};
-ghost use Rattle.sql_tree.specs.Statements.{item_tree, select_tree, update_tree, delete_tree, statement_tree, SetTree, set_tree};
+ghost use Rattle.sql_tree.specs.Statements.{item_tree, select_tree, update_tree, delete_tree};
+ghost use Rattle.sql_tree.specs.Statements.{statement_tree, SetTree, set_tree};
 ghost use Rattle.sql_read.specs.Lexemes.{seen};
 ghost use Rattle.sql_read.specs.Reading.{Gives};
 ghost use Rattle.sql_read.specs.Expressions.{below, expr_at};
 ghost use Rattle.sql_read.specs.Parts.{set_at};
-ghost use Rattle.sql_read.specs.Statements.{sets_at, from_at, past_all, select_at, update_at, delete_at};
+ghost use Rattle.sql_read.specs.Statements.{sets_at, from_at, past_all, select_at, update_at};
+ghost use Rattle.sql_read.specs.Statements.{delete_at};
 ghost use Rattle.sql_read.specs.Statements.{statement_at, whole_at};
 
 use crate::cursor::{Left, after_mark, count_left, name};
