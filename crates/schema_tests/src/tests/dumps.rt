@@ -329,6 +329,32 @@ U 1
 I n 0() unusable
 I o 0(0B)
 P 1 0
+
+PRAGMA foreign_keys=OFF;
+BEGIN TRANSACTION;
+CREATE TABLE customer(id INTEGER PRIMARY KEY AUTOINCREMENT,
+  name TEXT COLLATE NOCASE NOT NULL, city TEXT);
+INSERT INTO customer VALUES(1,'Ada','Bern');
+CREATE TABLE item(id INTEGER PRIMARY KEY, title TEXT, price REAL);
+INSERT INTO item VALUES(1,'cup',4.5);
+CREATE TABLE sale(id INTEGER PRIMARY KEY,
+  customer_id INT REFERENCES customer(id), item_id INT, day TEXT);
+INSERT INTO sale VALUES(1,1,1,'2024-01-02');
+DELETE FROM sqlite_sequence;
+INSERT INTO sqlite_sequence VALUES('customer',1);
+CREATE INDEX sale_day ON sale(day);
+CREATE TRIGGER tg AFTER INSERT ON sale BEGIN UPDATE item SET price=1; END;
+CREATE VIEW v AS SELECT name FROM customer;
+COMMIT;
+=> T customer(id:IB,name:TN,city:TB)@0
+R 1=i1,tAda,tBern
+T item(id:IB,title:TB,price:RB)@0
+R 1=i1,tcup,d45000
+T sale(id:IB,customer_id:IB,item_id:IB,day:TB)@0
+R 1=i1,i1,i1,t2024-01-02
+U 1
+I sale_day 2(3B)
+P 6 0
 ";
 
 /// What the shell of SQLite 3.40.1 writes for two tables, an index, a view and a trigger.
