@@ -5,7 +5,7 @@ use Rattle.std.proofs.Common.{refl, ap, sym, ◌∙◌, arith}
 use Rattle.std.proofs.lemmas.List.{length-map}
 use Rattle.sql_tokens.specs.Terminals.{terminal_of}
 use Rattle.sql_tokens.specs.declared.token.Token.{Token}
-use Rattle.sql_lex.specs.Rows.{step_of, row_steps}
+use Rattle.sql_lex.specs.Rows.{room, step_of, row_steps}
 use Rattle.sql_lex.specs.Rows.{State, start, next_state, next_stack, finds, top_counts, top_from}
 use Rattle.sql_lex.specs.Rows.{counts, any_from, row_from, row_in, depth_behind, deepest_of}
 use Rattle.sql_lex.specs.declared.row_values.RowStep.{RowStep}
@@ -18,13 +18,13 @@ exchange false true false d = refl
 exchange false false c d = refl
 
 top_split : (base : ℕ) (bs : List Bool)
-    → top_from base bs ≡ (top_counts base bs || top_from (base + 256) bs)
+    → top_from base bs ≡ (top_counts base bs || top_from (base + room) bs)
 top_split base [] = refl
 top_split base (true ∷ bs) = grind arith
 top_split base (false ∷ bs) = grind arith
 
 counts_split : (base : ℕ) (s : State) (m : RowStep)
-    → counts base s m ≡ (finds base s m || counts (base + 256) s m)
+    → counts base s m ≡ (finds base s m || counts (base + room) s m)
 counts_split base s step.Comma = top_split base s.stack
 counts_split base s step.Open = refl
 counts_split base s step.Close = refl
@@ -32,7 +32,7 @@ counts_split base s step.In = refl
 counts_split base s step.Other = refl
 
 pub split : (base : ℕ) (s : State) (ms : List RowStep)
-    → any_from base s ms ≡ (row_from base s ms || any_from (base + 256) s ms)
+    → any_from base s ms ≡ (row_from base s ms || any_from (base + room) s ms)
 unfolding any_from row_from
 split base s [] = refl
 split base s (m ∷ ms) =
@@ -71,12 +71,12 @@ shallow base s (m ∷ ms) h =
 pub found_in : (base : ℕ) (ms : List RowStep) → row_in base ms ≡ true
     → any_from base start ms ≡ true
 unfolding row_in
-found_in base ms h = split base start ms ∙ ap (λ b. b || any_from (base + 256) start ms) h
+found_in base ms h = split base start ms ∙ ap (λ b. b || any_from (base + room) start ms) h
 
 pub none_in : (base : ℕ) (ms : List RowStep) → row_in base ms ≡ false
-    → any_from (base + 256) start ms ≡ any_from base start ms
+    → any_from (base + room) start ms ≡ any_from base start ms
 unfolding row_in
-none_in base ms h = sym (split base start ms ∙ ap (λ b. b || any_from (base + 256) start ms) h)
+none_in base ms h = sym (split base start ms ∙ ap (λ b. b || any_from (base + room) start ms) h)
 
 at_least : (d : ℕ) (ms : List RowStep) → d ≤ deepest_of d ms
 unfolding deepest_of

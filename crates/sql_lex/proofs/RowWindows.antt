@@ -2,7 +2,7 @@
 use Rattle.std.proofs.Common.{◌≡◌, ℕ, suc, ◌+◌, ◌-◌, ◌<◌, ◌≤◌, Bool, true, false, ◌||◌, List, []}
 use Rattle.std.proofs.Common.{◌∷◌, length, drop, drop-cons, get_or, slice_set, refl, ap, sym, ◌∙◌}
 use Rattle.std.proofs.Common.{arith, add-one, get_or-set_same, get_or-set_other, drop_of_length-le}
-use Rattle.sql_lex.specs.Rows.{State, next_state, finds, row_from, Kept, Follows}
+use Rattle.sql_lex.specs.Rows.{room, State, next_state, finds, row_from, Kept, Follows}
 use Rattle.sql_lex.specs.declared.row_values.RowStep.{RowStep}
 use Rattle.sql_lex.specs.declared.row_values.RowStep.TheVariants as step
 use Rattle.sql_lex.specs.declared.row_values.Window.{Window}
@@ -36,7 +36,7 @@ opened_in w s lo hi f =
       );
     }
 
-pub opened_out : (w : Window) (s : State) → ¬ ((w.base ≤ w.depth) × (w.depth < w.base + 256))
+pub opened_out : (w : Window) (s : State) → ¬ ((w.base ≤ w.depth) × (w.depth < w.base + room))
     → Follows w s → Follows
     (record { base = w.base; behind_in = w.behind_in; depth = w.depth + 1; after_in = false })
     (next_state step.Open s)

@@ -64,10 +64,15 @@ any_from base s (m ∷ ms) = counts base s m || any_from base (next_state m s) m
 unfoldable pub has_row_value : List Terminal → Bool
 has_row_value ts = any_from 0 start (map step_of ts)
 
--- the innermost parenthesis is one of 256 from number `base` on, and doesn't stand behind IN
+-- how many open parentheses a window knows
+abbrev pub room : ℕ
+room = 16384
+
+-- the innermost parenthesis is one of those in the window from number `base` on, and doesn't stand
+-- behind IN
 abbrev pub top_counts : ℕ → List Bool → Bool
 top_counts base [] = false
-top_counts base (b ∷ bs) = nat_le base (length bs) && nat_lt (length bs) (base + 256) && not b
+top_counts base (b ∷ bs) = nat_le base (length bs) && nat_lt (length bs) (base + room) && not b
 
 abbrev pub finds : ℕ → State → RowStep → Bool
 finds base s step.Comma = top_counts base s.stack
@@ -84,7 +89,7 @@ row_in base ms = row_from base start ms
 abbrev pub Kept : ℕ → List Bool → List Bool → Type 0
 Kept base known [] = Unit {0}
 Kept base known (b ∷ bs) =
-    (base ≤ length bs → length bs < base + 256
+    (base ≤ length bs → length bs < base + room
     → slice_index_or known (length bs - base) false ≡ b)
     × Kept base known bs
 

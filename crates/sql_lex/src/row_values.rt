@@ -18,12 +18,16 @@ enum RowStep {
     Other,
 }
 
+/// How many open parentheses a window knows: more than any script nests but one made for it, and
+/// little to set up for each statement.
+const ROOM: usize = 16_384;
+
 /// What is known of the open parentheses from number `base` on, counted from outside, of which
-/// there is room for 256: whether each stands directly behind IN.
+/// there is room for so many: whether each stands directly behind IN.
 #[derive(Drop)]
 struct Window {
     base: usize,
-    behind_in: [bool; 256],
+    behind_in: [bool; ROOM],
     depth: usize,
     after_in: bool,
 }
@@ -63,7 +67,7 @@ fn take_open(window: &mut Window)
 {
     let level = window.depth;
     window.depth += 1;
-    if window.base <= level && level - window.base < 256 {
+    if window.base <= level && level - window.base < ROOM {
         window.behind_in[level - window.base] = window.after_in;
         window.after_in = false;
         return;
@@ -107,21 +111,22 @@ fn finds(window: &Window, step: RowStep) -> bool
     match step {
         RowStep::Comma => {
             window.base < window.depth
-                && window.depth - window.base <= 256
+                && window.depth - window.base <= ROOM
                 && !window.behind_in[window.depth - 1 - window.base]
         }
         _ => false,
     }
 }
 
-/// Whether such a comma stands in a parenthesis from number `base` on, of 256.
+/// Whether such a comma stands in a parenthesis from number `base` on, of those that the window has
+/// room for.
 fn row_in(base: usize, text: &[u8], tokens: &[Token]) -> bool
     requires { length tokens.now < 2 ^ 32 }
     ensures { result ≡ row_in base (row_steps text.now tokens.now) }
 {
     let mut window = Window {
         base,
-        behind_in: [false; 256],
+        behind_in: [false; ROOM],
         depth: 0,
         after_in: false,
     };
@@ -169,7 +174,7 @@ fn deepest(text: &[u8], tokens: &[Token]) -> usize
 }
 
 /// Whether a comma stands in parentheses of which the innermost doesn't stand directly behind IN.
-/// One pass and one more for each 256 levels of nesting, since nothing is allocated.
+/// One pass and one more for each window of nesting, since nothing is allocated.
 pub(crate) fn has_row_value(text: &[u8], tokens: &[Token]) -> bool
     requires { length tokens.now < 2 ^ 32 }
     ensures { result ≡ has_row_value (map (terminal_of text.now) tokens.now) }
@@ -180,7 +185,7 @@ pub(crate) fn has_row_value(text: &[u8], tokens: &[Token]) -> bool
         if row_in(base, text, tokens) {
             return true;
         }
-        base += 256;
+        base += ROOM;
     }
     false
 }
