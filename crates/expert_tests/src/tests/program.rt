@@ -34,6 +34,13 @@ SCAN x1
 (no new indexes)
 ";
 
+const TOO_DEEP: &str = "-- Statement 1
+refused: expression too deep
+
+-- Recommended
+(no new indexes)
+";
+
 const TWO_STATEMENTS: &str = "SELECT y.a AS k FROM \"x1\" 'y' WHERE k = 1;
 SELECT [y].a FROM x1 AS [y] WHERE y.a = 1";
 
@@ -291,6 +298,13 @@ fn report_length(alloc: Global, parts: [&str; 3], count: u32) -> Result<usize, M
     })
 }
 
+/// Whether such a script has this report, with a statement refused.
+fn refuses_long(alloc: Global, parts: [&str; 3], count: u32, out: &str) -> Result<bool, Memory> {
+    let words = long_script(alloc, parts, count)?;
+    let ran = run_within(alloc, &words, X1, 9_999)?;
+    Ok(ran.status == 3 && ran.out.as_slice() == out.as_bytes())
+}
+
 /// Lists are read in loops: the stack and the time of a byte don't grow with them.
 #[test]
 fn reads_the_largest_scripts(rt: HostRuntime) -> Result<(), Fail> {
@@ -301,5 +315,15 @@ fn reads_the_largest_scripts(rt: HostRuntime) -> Result<(), Fail> {
     assert_eq!(rt; report_length(alloc, entries, 99_999)?, SCAN.len());
     let statements = ["", "SELECT a FROM x1;", ""];
     assert_eq!(rt; report_length(alloc, statements, 246_000)?, 11_450_927);
+    Ok(())
+}
+
+/// Parentheses are looked at in few passes, however deep they stand.
+#[test]
+fn reads_the_deepest_scripts(rt: HostRuntime) -> Result<(), Fail> {
+    let open = ["SELECT ", "(", "1 FROM x1"];
+    assert!(rt; refuses_long(rt.alloc(), open, 4_000_000, TOO_DEEP)?);
+    let groups = ["SELECT 1 FROM x1 WHERE ", "(1 IN (", ""];
+    assert!(rt; refuses_long(rt.alloc(), groups, 500_000, TOO_DEEP)?);
     Ok(())
 }
