@@ -24,7 +24,7 @@ fn letter(bound: &Bound, conjunct: u32, item: u32) -> u8
 }
 
 /// The item in whose loop the conjunct is tested, where the loops stand in this order; `!` where it
-/// is in none.
+/// is in none, and `?` where one of them is of no item.
 fn tested_in(bound: &Bound, conjunct: u32, order: &[u32]) -> u8
     requires { conjunct < length bound.now.conjuncts.now }
 {

@@ -34,6 +34,18 @@ SCAN x1
 (no new indexes)
 ";
 
+const SCAN_AND_TOKEN: &str = "-- Statement 1
+(no new indexes)
+
+SCAN x1
+
+-- Statement 2
+refused: unrecognized token
+
+-- Recommended
+(no new indexes)
+";
+
 const TOO_DEEP: &str = "-- Statement 1
 refused: expression too deep
 
@@ -108,6 +120,11 @@ fn run_within(alloc: Global, words: &Words, dump: &str, room: u64) -> Result<Ran
     })
 }
 
+/// Whether a call has this status and report, and nothing on standard error.
+fn says(ran: &Ran, status: u8, out: &str) -> bool {
+    ran.status == status && ran.out.as_slice() == out.as_bytes() && ran.err.as_slice().is_empty()
+}
+
 /// Whether a script has this report and status, by the option, the script and `db`.
 fn reports(
     alloc: Global,
@@ -116,12 +133,7 @@ fn reports(
     status: u8,
     out: &str,
 ) -> Result<bool, Memory> {
-    let ran = run(alloc, &[option, script, "db"], X1)?;
-    Ok(
-        ran.status == status
-            && ran.out.as_slice() == out.as_bytes()
-            && ran.err.as_slice().is_empty(),
-    )
+    Ok(says(&run(alloc, &[option, script, "db"], X1)?, status, out))
 }
 
 /// Whether a call has this status and line, and no report.
@@ -148,8 +160,11 @@ fn reports_and_refuses(rt: HostRuntime) -> Result<(), Fail> {
     assert!(rt; reports(alloc, "-sql", "SELECT b, a FROM X1;", 0, SCAN)?);
     assert!(rt; reports(alloc, "-sql", " ; /* none */ ;;", 0, NOTHING)?);
     assert!(rt; reports(alloc, "-sql", "", 0, NOTHING)?);
+    assert!(rt; says(&run(alloc, &["-sql", "", "db"], "")?, 0, NOTHING));
     let missing = "SELECT * FROM nope; SELECT * FROM x1";
     assert!(rt; reports(alloc, "-sql", missing, 3, MISSING_AND_SCAN)?);
+    let open = "SELECT * FROM x1; SELECT 'ab";
+    assert!(rt; reports(alloc, "-sql", open, 3, SCAN_AND_TOKEN)?);
     assert!(rt; reports(alloc, "-sql", TWO_STATEMENTS, 3, TWO_BLOCKS)?);
     let gone = ["--sql", "SELECT * FROM x1", "gone"];
     assert!(rt; refuses(alloc, &gone, X1, 4, "sqlite3_expert: cannot read gone\n")?);
@@ -173,6 +188,7 @@ SELECT * FROM v => table not read: v
 SELECT zz FROM x1 => no such column: zz
 SELECT x1.zz FROM x1 => no such column: x1.zz
 SELECT \"t\".* FROM x1 => no such column: t.*
+SELECT a FROM x1, x1 AS y => ambiguous column name: a
 SELECT a FROM x1, x1 AS y WHERE zz = 1 => ambiguous column name: a
 SELECT * FROM x1, x1 => name used twice in FROM: x1
 SELECT * FROM x1 ORDER BY 4 => ORDER BY position out of range
@@ -257,40 +273,35 @@ fn unheard(alloc: Global, words: &[&str]) -> Result<Ran, Memory> {
     })
 }
 
-/// Whether a call says nothing, and has this status.
-fn is_silent(ran: &Ran, status: u8) -> bool {
-    ran.status == status && ran.out.as_slice().is_empty() && ran.err.as_slice().is_empty()
-}
-
 #[test]
 fn a_fault_of_standard_error_changes_nothing(rt: HostRuntime) -> Result<(), Fail> {
     let alloc = rt.alloc();
-    assert!(rt; is_silent(&unheard(alloc, &[])?, 1));
-    assert!(rt; is_silent(&unheard(alloc, &["-sql", "x"])?, 1));
+    assert!(rt; says(&unheard(alloc, &[])?, 1, ""));
+    assert!(rt; says(&unheard(alloc, &["-sql", "x"])?, 1, ""));
     Ok(())
 }
 
-/// The words of a script that has a front, a piece so often, and a back.
-fn long_script(
-    alloc: Global,
-    [front, piece, back]: [&str; 3],
-    count: u32,
-) -> Result<Words, Memory> {
+/// A call with a script that doesn't stand in one literal.
+fn run_script(alloc: Global, script: Bytes) -> Result<Ran, Memory> {
+    let mut words = words_of(alloc, &["-sql"])?;
+    words.push(script)?;
+    words.push(Bytes::copy(alloc, b"db")?)?;
+    run_within(alloc, &words, X1, 12_000_000)
+}
+
+/// A call with a script that has a front, a piece so often, and a back.
+fn run_long(alloc: Global, [front, piece, back]: [&str; 3], count: u32) -> Result<Ran, Memory> {
     let mut script = Bytes::copy(alloc, front.as_bytes())?;
     for _ in 0..count {
         script.append(piece.as_bytes())?;
     }
     script.append(back.as_bytes())?;
-    let mut words = words_of(alloc, &["-sql"])?;
-    words.push(script)?;
-    words.push(Bytes::copy(alloc, b"db")?)?;
-    Ok(words)
+    run_script(alloc, script)
 }
 
 /// How long such a script's report is; nothing where a statement is refused.
 fn report_length(alloc: Global, parts: [&str; 3], count: u32) -> Result<usize, Memory> {
-    let words = long_script(alloc, parts, count)?;
-    let ran = run_within(alloc, &words, X1, 12_000_000)?;
+    let ran = run_long(alloc, parts, count)?;
     Ok(if ran.status == 0 {
         ran.out.as_slice().len()
     } else {
@@ -298,11 +309,24 @@ fn report_length(alloc: Global, parts: [&str; 3], count: u32) -> Result<usize, M
     })
 }
 
-/// Whether such a script has this report, with a statement refused.
-fn refuses_long(alloc: Global, parts: [&str; 3], count: u32, out: &str) -> Result<bool, Memory> {
-    let words = long_script(alloc, parts, count)?;
-    let ran = run_within(alloc, &words, X1, 9_999)?;
-    Ok(ran.status == 3 && ran.out.as_slice() == out.as_bytes())
+/// A call with `a=1` within so many parentheses.
+fn run_nested(alloc: Global, depth: u32) -> Result<Ran, Memory> {
+    let mut script = Bytes::copy(alloc, b"SELECT a FROM x1 WHERE ")?;
+    for _ in 0..depth {
+        script.push(b'(')?;
+    }
+    script.append(b"a=1")?;
+    for _ in 0..depth {
+        script.push(b')')?;
+    }
+    run_script(alloc, script)
+}
+
+#[test]
+fn nests_up_to_its_limit(rt: HostRuntime) -> Result<(), Fail> {
+    assert!(rt; says(&run_nested(rt.alloc(), 200)?, 0, SCAN));
+    assert!(rt; says(&run_nested(rt.alloc(), 201)?, 3, TOO_DEEP));
+    Ok(())
 }
 
 /// Lists are read in loops: the stack and the time of a byte don't grow with them.
@@ -322,8 +346,8 @@ fn reads_the_largest_scripts(rt: HostRuntime) -> Result<(), Fail> {
 #[test]
 fn reads_the_deepest_scripts(rt: HostRuntime) -> Result<(), Fail> {
     let open = ["SELECT ", "(", "1 FROM x1"];
-    assert!(rt; refuses_long(rt.alloc(), open, 4_000_000, TOO_DEEP)?);
+    assert!(rt; says(&run_long(rt.alloc(), open, 4_000_000)?, 3, TOO_DEEP));
     let groups = ["SELECT 1 FROM x1 WHERE ", "(1 IN (", ""];
-    assert!(rt; refuses_long(rt.alloc(), groups, 500_000, TOO_DEEP)?);
+    assert!(rt; says(&run_long(rt.alloc(), groups, 500_000)?, 3, TOO_DEEP));
     Ok(())
 }
