@@ -1,13 +1,13 @@
 -- Free items may stand in any order.
 use Rattle.std.specs.List.{AllByRecursion}
 use Rattle.std.specs.List.Sorted.{IsPermutation}
-use Rattle.std.proofs.Common.{◌≡◌, ◌≢◌, ℕ, ◌+◌, ◌≤◌, Bool, true, cond, List, [], ◌∷◌, ◌++◌, refl}
-use Rattle.std.proofs.Common.{ap, sym, ◌∙◌, subst, arith, eqb}
+use Rattle.std.proofs.Common.{◌≡◌, ◌≢◌, ℕ, ◌≤◌, Bool, true, cond, List, [], ◌∷◌, ◌++◌, refl}
+use Rattle.std.proofs.Common.{sym, subst, arith, eqb}
 use Rattle.std.proofs.lemmas.Bool.{eqb-true, eq-eqb}
 use Rattle.list_laws.specs.Tally.{tally, SameTally}
 use Rattle.list_laws.specs.Nest.{Distinct, Rearranges, next, same, swapped, after}
-use Rattle.list_laws.proofs.Tallies.{tally-append}
-use Rattle.list_laws.proofs.Permutations.{Split, split_at, nothing, SameTally-from_permutation}
+use Rattle.list_laws.proofs.Permutations.{Split, split_at, split_rest, nothing}
+use Rattle.list_laws.proofs.Permutations.{SameTally-from_permutation}
 
 all_parts : (P : ℕ → Type 0) (xs : List ℕ) (x : ℕ) (ys : List ℕ) → AllByRecursion P (xs ++ x ∷ ys)
     → P x × AllByRecursion P (xs ++ ys)
@@ -48,14 +48,9 @@ from_tally free (i ∷ is) js f d t =
     let here = subst (AllByRecursion (λ j. free j ≡ true)) s.is f in
     let frees = all_parts (λ j. free j ≡ true) s.front i s.back here in
     let parts = distinct_parts s.front i s.back (subst Distinct s.is d) in
-    let rest : SameTally is (s.front ++ s.back) =
-    record {
-      each = λ f. let whole : f i + tally f is ≡ tally f (s.front ++ i ∷ s.back) = t.each f
-          ∙ ap (tally f) s.is in
-          omega (arith, whole, tally-append f s.front (i ∷ s.back), tally-append f s.front s.back);
-    } in
     subst (λ (ks : List ℕ). Rearranges free (i ∷ is) ks) (sym s.is)
-    (after _ _ _ (next i is _ (from_tally free is (s.front ++ s.back) frees.1 parts.1 rest))
+    (after _ _ _ (next i is _ (from_tally free is (s.front ++ s.back) frees.1 parts.1
+    (split_rest i is js s t)))
     (moved free i s.front s.back frees.0 (all_front _ s.front i s.back here) parts.0))
 
 -- distinct items that are all free stand in any order

@@ -7,13 +7,19 @@ use Rattle.std.specs.Cmp.{IsEquivalence, IsTotalOrder}
 use Rattle.std.proofs.Common.{Bool, true, false, cond, List, [], ◌∷◌, ◌≡◌, ◌||◌, refl, sym, ◌∙◌, ℕ}
 use Rattle.std.proofs.Common.{◌≤◌, arith}
 use Rattle.std.proofs.lemmas.Cmp.{eq_by_cmp_equiv}
-use Rattle.list_laws.specs.FirstComing.{has, keep_first, ties_any}
-use Rattle.list_laws.specs.Order.{RisesStrictly, Ascends, sort_by}
+use Rattle.list_laws.specs.FirstComing.{has, keep_first}
+use Rattle.list_laws.specs.Order.{Ascends, sort_by}
 use Rattle.list_laws.specs.Tally.{tally, SameTally}
 use Rattle.list_laws.proofs.Bools.{or_false_right, or_false_left}
 use Rattle.list_laws.proofs.Lists.{all_map, all_both}
 use Rattle.list_laws.proofs.Unions.{has_congr, has_some, has_none}
 use Rattle.list_laws.proofs.Orders.{SameTally-sort_by}
+use Rattle.list_laws.specs.Order.{RisesStrictly}
+
+-- the value ties with one of the keys
+abbrev pub ties_any : {K : Type 0} → (K → K → Ordering) → List K → K → Bool
+ties_any R [] v = false
+ties_any R (k ∷ ks) v = is_eq (R v k) || ties_any R ks v
 
 pub all_keep : {X : Type 0} (E : X → X → Bool) (P : X → Type 0) (xs seen : List X)
     → AllByRecursion P xs → AllByRecursion P (keep_first E seen xs)
@@ -94,14 +100,14 @@ keep_case {X} {E} o x xs seen v h k false e =
     new_case (E x v) (has E xs v) (has E seen v) (has E (keep_first E (x ∷ seen) xs) v) k
 
 -- keeping the first of each that tie keeps what ties with some
-has-keep_first : {X : Type 0} {E : X → X → Bool} → IsEquivalence E → (xs seen : List X) (v : X)
+pub has-keep_first : {X : Type 0} {E : X → X → Bool} → IsEquivalence E → (xs seen : List X) (v : X)
     → (has E (keep_first E seen xs) v || has E seen v) ≡ (has E xs v || has E seen v)
 has-keep_first o [] seen v = refl
 has-keep_first {X} {E} o (x ∷ xs) seen v =
     keep_case o x xs seen v (has-keep_first o xs seen v) (has-keep_first o xs (x ∷ seen) v)
     (has E seen x) refl
 
-or_none : (a : Bool) → (a || false) ≡ a
+pub or_none : (a : Bool) → (a || false) ≡ a
 or_none true = refl
 or_none false = refl
 

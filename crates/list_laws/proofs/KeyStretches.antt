@@ -7,11 +7,12 @@ use Rattle.std.specs.Cmp.{IsTotalOrder}
 use Rattle.std.proofs.Common.{◌≡◌, Bool, true, false, List, [], ◌∷◌, cond, ◌++◌, refl, ap, ◌||◌}
 use Rattle.std.proofs.Common.{◌∙◌, sym}
 use Rattle.std.proofs.lemmas.Cmp.{alike_right, tied_itself}
-use Rattle.list_laws.specs.FirstComing.{ties_any}
-use Rattle.list_laws.specs.Order.{Ascends, RisesStrictly}
+use Rattle.list_laws.specs.Order.{Ascends}
 use Rattle.list_laws.proofs.Bools.{or_cases}
 use Rattle.list_laws.proofs.Orders.{eq_at}
 use Rattle.list_laws.proofs.Lists.{filter_none, all_map}
+use Rattle.list_laws.specs.Order.{RisesStrictly}
+use Rattle.list_laws.proofs.FirstComings.{ties_any}
 
 -- once q passes, p does no more
 abbrev pub Follows : {X : Type 0} → (X → Bool) → (X → Bool) → List X → Type 0

@@ -2,8 +2,10 @@ pub mod Bools
 pub mod Lists
 pub mod Tallies
 pub mod Permutations
+pub mod Permuted
 pub mod Stretches
 pub mod Orders
+pub mod StableSorts
 pub mod FirstComings
 pub mod KeyStretches
 pub mod Unions

@@ -4,7 +4,8 @@ use Rattle.std.specs.Ordering.{is_le, ordering_then, then_cmp}
 use Rattle.std.specs.declared.cmp.Ordering.{Ordering}
 use Rattle.std.specs.declared.cmp.Ordering.TheVariants.{Less, Equal}
 use Rattle.std.proofs.Common.{◌≡◌, true, List, [], ◌∷◌, ◌++◌, refl, Bool, false, cond, ap, ◌∙◌}
-use Rattle.list_laws.specs.Order.{Ascends, RisesStrictly}
+use Rattle.list_laws.specs.Order.{Ascends}
+use Rattle.list_laws.specs.Order.{RisesStrictly}
 use Rattle.list_laws.specs.Nest.{Env}
 use Rattle.list_laws.proofs.Lists.{all_append, all_always, all_map}
 

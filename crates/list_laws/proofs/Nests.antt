@@ -1,18 +1,20 @@
 -- Nested loops are a filter of a product.
 use Rattle.std.specs.List.{AllByRecursion, filter, flat_map}
 use Rattle.std.proofs.Common.{◌≡◌, ◌≢◌, ℕ, List, None, get_or, refl, sym, get_or-set_other, [], ◌∷◌}
-use Rattle.std.proofs.Common.{◌∙◌, Bool, true, false, cond, ◌&&◌, ap, Some, ◌++◌}
+use Rattle.std.proofs.Common.{◌∙◌, Bool, true, false, cond, ◌&&◌, ap, Some, ◌++◌, subst}
+use Rattle.std.specs.List.Sorted.{IsPermutation}
+use Rattle.std.proofs.lemmas.List.Sorted.{IsPermutation-refl, IsPermutation-trans}
 use Rattle.std.proofs.lemmas.List.{length-set}
 use Rattle.std.proofs.lemmas.List.Elements.{filter_agree}
 use Rattle.list_laws.specs.Nest.{Env, place, product, Agree, Apart, Step, nested, kept, step_items}
 use Rattle.list_laws.specs.Nest.{IsStep, Inside, AreSteps, Distinct, Rearranges, same, next}
 use Rattle.list_laws.specs.Nest.{swapped, after, AreFree, all_hold, IsPartOf}
-use Rattle.list_laws.specs.Tally.{tally, SameTally}
 use Rattle.list_laws.proofs.Bools.{alike}
 use Rattle.list_laws.proofs.Lists.{all_map, all_always, all_flat_map, set_exchange, filter-flat_map}
 use Rattle.list_laws.proofs.Lists.{flat_map_same, filter-filter, agree_first, agree_second}
-use Rattle.list_laws.proofs.Tallies.{tally_zero, tally-filter, tally_agree, tally-flat_map}
-use Rattle.list_laws.proofs.Tallies.{tally_same, tally_exchange, SameTally-filter}
+use Rattle.list_laws.proofs.Lists.{filter_none}
+use Rattle.list_laws.proofs.Permuted.{IsPermutation-flat_map, IsPermutation-filter, joins_exchange}
+use Rattle.list_laws.proofs.Permuted.{flat_map_permutes, flat_map-filter}
 
 -- a is env but for these items
 abbrev pub Differs : {X : Type 0} → List ℕ → Env X → Env X → Type 0
@@ -37,41 +39,48 @@ agree_apart : {X : Type 0} (placed items : List ℕ) (env a : Env X) → Apart p
     → Differs items env a → Agree placed env a
 agree_apart placed items env a apart d = all_map _ _ placed (λ j n. d j n) apart
 
-pull : {Y : Type 0} (u v : Bool) (k : Y → Bool) (f : Y → ℕ) (ys : List Y)
-    → cond u (cond v (tally (λ a. cond (k a) (f a) 0) ys) 0) 0
-    ≡ tally (λ a. cond (u && (v && k a)) (f a) 0) ys
-pull true true k f ys = refl
-pull true false k f ys = sym (tally_zero ys)
-pull false v k f ys = sym (tally_zero ys)
+-- tests of a loop's row stand in the filter of what follows it
+tested : {Y : Type 0} (u v : Bool) (k : Y → Bool) (zs ys : List Y)
+    → IsPermutation zs (filter k ys)
+    → IsPermutation (cond u (cond v zs []) []) (filter (λ a. u && (v && k a)) ys)
+tested true true k zs ys h = h
+tested true false k zs ys h =
+    subst (IsPermutation []) (sym (filter_none _ ys (all_always _ ys (λ y. refl))))
+    (IsPermutation-refl [])
+tested false v k zs ys h =
+    subst (IsPermutation []) (sym (filter_none _ ys (all_always _ ys (λ y. refl))))
+    (IsPermutation-refl [])
 
-tally_cond : {X : Type 0} (f : X → ℕ) (b : Bool) (xs : List X)
-    → tally f (cond b xs []) ≡ cond b (tally f xs) 0
-tally_cond f true xs = refl
-tally_cond f false xs = refl
+filter_alike : {Y : Type 0} (p q : Y → Bool) (ys : List Y) → AllByRecursion (λ y. p y ≡ q y) ys
+    → filter p ys ≡ filter q ys
+filter_alike p q [] h = refl
+filter_alike p q (y ∷ ys) h = rw (h.0, filter_alike p q ys h.1) refl
 
 -- one row of a loop
-one_row : {X : Type 0} (rows : ℕ → Env X → List X) (f : Env X → ℕ) (t : Step X) (ts : List (Step X))
-    (placed : List ℕ) (env : Env X)
+one_row : {X : Type 0} (rows : ℕ → Env X → List X) (u : Env X → Bool) (us : List (Env X → Bool))
+    (t : Step X) (ts : List (Step X)) (placed : List ℕ) (env : Env X)
     → AllByRecursion (λ j. j ≢ t.item) (step_items ts) → Apart (t.item ∷ placed) (step_items ts)
-    → IsStep rows placed t → (x : X)
-    → SameTally (nested ts (place env t.item x))
-    (filter (kept ts) (product rows (step_items ts) (place env t.item x)))
-    → cond (t.used (place env t.item x))
-    (tally f (cond (t.test (place env t.item x)) (nested ts (place env t.item x)) [])) 0
-    ≡ tally (λ a. cond (kept (t ∷ ts) a) (f a) 0)
-    (product rows (step_items ts) (place env t.item x))
-one_row rows f t ts placed env n apart s x ih =
-    ap (λ m. cond (t.used (place env t.item x)) m 0)
-    (tally_cond f (t.test (place env t.item x)) _
-    ∙ ap (λ m. cond (t.test (place env t.item x)) m 0) (ih.each f ∙ tally-filter f (kept ts) _))
-    ∙ pull (t.used (place env t.item x)) (t.test (place env t.item x)) (kept ts) f _
-    ∙ tally_agree _ _ _
+    → IsStep rows placed u t → (x : X)
+    → IsPermutation (nested ts (place env t.item x))
+    (filter (kept us ts) (product rows (step_items ts) (place env t.item x)))
+    → IsPermutation
+    (cond (u (place env t.item x))
+    (cond (t.test (place env t.item x)) (nested ts (place env t.item x)) []) [])
+    (filter (kept (u ∷ us) (t ∷ ts)) (product rows (step_items ts) (place env t.item x)))
+one_row rows u us t ts placed env n apart s x ih =
+    subst
+    (IsPermutation
+    (cond (u (place env t.item x))
+    (cond (t.test (place env t.item x)) (nested ts (place env t.item x)) []) []))
+    (filter_alike _ _ (product rows (step_items ts) (place env t.item x))
     (all_map _ _ _
     (λ a d. let agrees =
     agree_apart (t.item ∷ placed) (step_items ts) (place env t.item x) a apart d in
     rw
-    (s.used_looks (place env t.item x) a agrees, s.test_looks (place env t.item x) a agrees) refl)
-    (product_differs rows (step_items ts) (place env t.item x)))
+    (s.asked_looks (place env t.item x) a agrees, s.test_looks (place env t.item x) a agrees) refl)
+    (product_differs rows (step_items ts) (place env t.item x))))
+    (tested (u (place env t.item x)) (t.test (place env t.item x)) (kept us ts)
+    (nested ts (place env t.item x)) (product rows (step_items ts) (place env t.item x)) ih)
 
 apart_step : (i : ℕ) (placed items : List ℕ) → AllByRecursion (λ j. j ≢ i) items
     → Apart placed (i ∷ items) → Apart (i ∷ placed) items
@@ -81,41 +90,53 @@ pub inside_place : {X : Type 0} (env : Env X) (i : ℕ) (x : X) (items : List �
     → Inside items (place env i x)
 inside_place env i x items h = all_map _ _ items (λ j lt. rw length-set lt) h
 
--- the nested walks are the assignments on which the used terms and the tests of all loops hold,
--- each as often
-pub nested_is : {X : Type 0} (rows : ℕ → Env X → List X) (ts : List (Step X)) (placed : List ℕ)
-    (env : Env X)
+-- the nested walks are the assignments that all loops keep, each as often
+pub nested_is : {X : Type 0} (rows : ℕ → Env X → List X) (us : List (Env X → Bool))
+    (ts : List (Step X)) (placed : List ℕ) (env : Env X)
     → Inside (step_items ts) env → Distinct (step_items ts) → Apart placed (step_items ts)
-    → AreSteps rows placed ts
-    → SameTally (nested ts env) (filter (kept ts) (product rows (step_items ts) env))
-nested_is rows [] placed env inside distinct apart steps = record { each = λ f. refl }
-nested_is rows (t ∷ ts) placed env inside distinct apart steps = record {
-  each = λ f.
-      tally-flat_map f _ (t.walk env)
-      ∙ (steps.0.walks env inside.0).each _
-      ∙ tally-filter _ (λ x. t.used (place env t.item x)) (rows t.item env)
-      ∙ tally_agree _ _ (rows t.item env)
-      (all_always _ (rows t.item env)
-      (λ x. one_row rows f t ts placed env distinct.0
-      (apart_step t.item placed (step_items ts) distinct.0 apart) steps.0 x
-      (nested_is rows ts (t.item ∷ placed) (place env t.item x)
-      (inside_place env t.item x (step_items ts) inside.1) distinct.1
-      (apart_step t.item placed (step_items ts) distinct.0 apart) steps.1)))
-      ∙ sym (tally-flat_map (λ a. cond (kept (t ∷ ts) a) (f a) 0) _ (rows t.item env))
-      ∙ sym (tally-filter f (kept (t ∷ ts)) (product rows (step_items (t ∷ ts)) env));
-}
+    → AreSteps rows placed us ts
+    → IsPermutation (nested ts env) (filter (kept us ts) (product rows (step_items ts) env))
+nested_is rows [] [] placed env inside distinct apart steps = IsPermutation-refl (env ∷ [])
+nested_is rows [] (t ∷ ts) placed env inside distinct apart steps = absurd steps
+nested_is rows (u ∷ us) [] placed env inside distinct apart steps = absurd steps
+nested_is {X} rows (u ∷ us) (t ∷ ts) placed env inside distinct apart steps =
+    IsPermutation-trans (nested (t ∷ ts) env) (flat_map follow (filter asked (rows t.item env))) _
+    (IsPermutation-flat_map follow (t.walk env) (filter asked (rows t.item env))
+    (steps.0.walks env inside.0))
+    (subst
+    (λ (l : List (Env X)). IsPermutation l
+    (filter (kept (u ∷ us) (t ∷ ts)) (product rows (step_items (t ∷ ts)) env)))
+    (sym (flat_map-filter follow asked (rows t.item env)))
+    (subst (IsPermutation (flat_map (λ x. cond (asked x) (follow x) []) (rows t.item env)))
+    (sym
+    (filter-flat_map (kept (u ∷ us) (t ∷ ts))
+    (λ x. product rows (step_items ts) (place env t.item x)) (rows t.item env)))
+    (flat_map_permutes _ _ (rows t.item env)
+    (all_always _ (rows t.item env)
+    (λ x. one_row rows u us t ts placed env distinct.0
+    (apart_step t.item placed (step_items ts) distinct.0 apart) steps.0 x
+    (nested_is rows us ts (t.item ∷ placed) (place env t.item x)
+    (inside_place env t.item x (step_items ts) inside.1) distinct.1
+    (apart_step t.item placed (step_items ts) distinct.0 apart) steps.1))))))
+  where
+    asked : X → Bool
+    asked x = u (place env t.item x)
+
+    follow : X → List (Env X)
+    follow x = cond (t.test (place env t.item x)) (nested ts (place env t.item x)) []
 
 -- what is kept depends on the placed items and the block's own alone
-pub kept_looks : {X : Type 0} (rows : ℕ → Env X → List X) (ts : List (Step X)) (placed : List ℕ)
-    (env a : Env X)
-    → AreSteps rows placed ts → Agree (step_items ts) env a → Agree placed env a
-    → kept ts a ≡ kept ts env
-kept_looks rows [] placed env a steps h k = refl
-kept_looks rows (t ∷ ts) placed env a steps h k =
+pub kept_looks : {X : Type 0} (rows : ℕ → Env X → List X) (us : List (Env X → Bool))
+    (ts : List (Step X)) (placed : List ℕ) (env a : Env X)
+    → AreSteps rows placed us ts → Agree (step_items ts) env a → Agree placed env a
+    → kept us ts a ≡ kept us ts env
+kept_looks rows [] ts placed env a steps h k = refl
+kept_looks rows (u ∷ us) [] placed env a steps h k = refl
+kept_looks rows (u ∷ us) (t ∷ ts) placed env a steps h k =
     rw (
-      steps.0.used_looks env a (h.0, k),
+      steps.0.asked_looks env a (h.0, k),
       steps.0.test_looks env a (h.0, k),
-      kept_looks rows ts (t.item ∷ placed) env a steps.1 h.1 (h.0, k),
+      kept_looks rows us ts (t.item ∷ placed) env a steps.1 h.1 (h.0, k),
     ) refl
 
 pub all_reorders : {free : ℕ → Bool} (P : ℕ → Type 0) (is js : List ℕ) → Rearranges free is js
@@ -134,62 +155,55 @@ distinct_reorders is js (swapped i j xs n _ _) h = (((λ e. n (sym e)), h.1.0), 
 distinct_reorders is js (after xs ys zs r s) h =
     distinct_reorders xs ys r (distinct_reorders ys zs s h)
 
-two_sums : {X : Type 0} (rows : ℕ → Env X → List X) (i j : ℕ) (is : List ℕ) (f : Env X → ℕ)
-    (env : Env X)
+-- the rows of a free item do not depend on the row that is placed before it
+two_items : {X : Type 0} (rows : ℕ → Env X → List X) (i j : ℕ) (is : List ℕ) (env : Env X)
     → ((e : Env X) → rows j e ≡ rows j env)
-    → tally f (product rows (i ∷ j ∷ is) env)
-    ≡ tally (λ x. tally (λ y. tally f (product rows is (place (place env i x) j y))) (rows j env))
+    → product rows (i ∷ j ∷ is) env
+    ≡ flat_map (λ x. flat_map (λ y. product rows is (place (place env i x) j y)) (rows j env))
     (rows i env)
-two_sums rows i j is f env free =
-    tally-flat_map f _ (rows i env)
-    ∙ tally_same _ _ (rows i env)
-    (λ x. tally-flat_map f _ (rows j (place env i x))
-    ∙ ap (tally (λ y. tally f (product rows is (place (place env i x) j y))))
+two_items rows i j is env free =
+    flat_map_same _ _ (rows i env)
+    (λ x. ap (flat_map (λ y. product rows is (place (place env i x) j y)))
     (free (place env i x)))
 
 -- in another order of free items there are the same assignments
 pub product_reorders : {X : Type 0} {free : ℕ → Bool} (rows : ℕ → Env X → List X)
-    → AreFree free rows → (items others : List ℕ) → Rearranges free items others
-    → (f : Env X → ℕ) (env : Env X)
-    → tally f (product rows items env) ≡ tally f (product rows others env)
-product_reorders rows free items others (same is) f env = refl
-product_reorders rows free items others (next i is js r) f env =
-    tally-flat_map f _ (rows i env)
-    ∙ tally_same _ _ (rows i env) (λ x. product_reorders rows free is js r f (place env i x))
-    ∙ sym (tally-flat_map f _ (rows i env))
-product_reorders rows free items others (swapped i j is n fi fj) f env =
-    two_sums rows i j is f env (free j fj env)
-    ∙ tally_exchange (λ x y. tally f (product rows is (place (place env i x) j y))) (rows i env)
-    (rows j env)
-    ∙ tally_same _ _ (rows j env)
-    (λ y. tally_same _ _ (rows i env)
-    (λ x. ap (λ e. tally f (product rows is e)) (set_exchange env i j (Some x) (Some y) n)))
-    ∙ sym (two_sums rows j i is f env (free i fi env))
-product_reorders rows free items others (after is js ks r s) f env =
-    product_reorders rows free is js r f env ∙ product_reorders rows free js ks s f env
+    → AreFree free rows → (items others : List ℕ) → Rearranges free items others → (env : Env X)
+    → IsPermutation (product rows items env) (product rows others env)
+product_reorders rows free items others (same is) env = IsPermutation-refl (product rows is env)
+product_reorders rows free items others (next i is js r) env =
+    flat_map_permutes _ _ (rows i env)
+    (all_always _ (rows i env) (λ x. product_reorders rows free is js r (place env i x)))
+product_reorders {X} rows free items others (swapped i j is n fi fj) env =
+    subst (λ (l : List (Env X)). IsPermutation l (product rows (j ∷ i ∷ is) env))
+    (sym (two_items rows i j is env (free j fj env)))
+    (subst
+    (IsPermutation
+    (flat_map (λ x. flat_map (λ y. product rows is (place (place env i x) j y)) (rows j env))
+    (rows i env)))
+    (flat_map_same _ _ (rows j env)
+    (λ y. flat_map_same _ _ (rows i env)
+    (λ x. ap (product rows is) (set_exchange env i j (Some x) (Some y) n)))
+    ∙ sym (two_items rows j i is env (free i fi env)))
+    (joins_exchange (λ x y. product rows is (place (place env i x) j y)) (rows i env)
+    (rows j env)))
+product_reorders rows free items others (after is js ks r s) env =
+    IsPermutation-trans _ _ _ (product_reorders rows free is js r env)
+    (product_reorders rows free js ks s env)
 
 -- in any order of the items
 pub nested_in_order : {X : Type 0} {free : ℕ → Bool} (rows : ℕ → Env X → List X) → AreFree free rows
-    → (ts : List (Step X)) (order placed : List ℕ) (env : Env X)
+    → (us : List (Env X → Bool)) (ts : List (Step X)) (order placed : List ℕ) (env : Env X)
     → Rearranges free (step_items ts) order → Inside order env → Distinct order → Apart placed order
-    → AreSteps rows placed ts
-    → SameTally (nested ts env) (filter (kept ts) (product rows order env))
-nested_in_order rows free ts order placed env re inside distinct apart steps = record {
-  each = λ f.
-      (nested_is rows ts placed env (all_reorders _ _ _ re inside)
-      (distinct_reorders _ _ re distinct)
-      (all_map _ _ placed (λ j n. all_reorders _ _ _ re n) apart) steps).each f
-      ∙ (SameTally-filter (kept ts) _ _
-      (record { each = λ g. product_reorders rows free (step_items ts) order re g env })).each f;
-}
-
-flat_map_on : {X Y : Type 0} (g h : X → List Y) (xs : List X)
-    → AllByRecursion (λ x. SameTally (g x) (h x)) xs → SameTally (flat_map g xs) (flat_map h xs)
-flat_map_on g h xs k =
-    record {
-      each = λ f. tally-flat_map f g xs
-          ∙ tally_agree _ _ xs (all_map _ _ xs (λ x s. s.each f) k) ∙ sym (tally-flat_map f h xs);
-    }
+    → AreSteps rows placed us ts
+    → IsPermutation (nested ts env) (filter (kept us ts) (product rows order env))
+nested_in_order rows free us ts order placed env re inside distinct apart steps =
+    IsPermutation-trans _ _ _
+    (nested_is rows us ts placed env (all_reorders _ _ _ re inside)
+    (distinct_reorders _ _ re distinct) (all_map _ _ placed (λ j n. all_reorders _ _ _ re n) apart)
+    steps)
+    (IsPermutation-filter (kept us ts) _ _
+    (product_reorders rows free (step_items ts) order re env))
 
 and_implied : (b k : Bool) → (k ≡ true → b ≡ true) → (b && k) ≡ k
 and_implied true k h = refl
@@ -204,48 +218,44 @@ not_both false k m h e f = refl
 -- the extensions on which the block's conjuncts hold, but for such as nothing to the right
 -- completes
 pub block_law : {X : Type 0} {free : ℕ → Bool} (rows : ℕ → Env X → List X) → AreFree free rows
-    → (cs : List (Env X → Bool)) (block : Env X → Bool) (ts : List (Step X)) (order left : List ℕ)
-    (G : List (Env X))
+    → (cs : List (Env X → Bool)) (block : Env X → Bool) (us : List (Env X → Bool))
+    (ts : List (Step X)) (order left : List ℕ) (G : List (Env X))
     → Rearranges free (step_items ts) order → AllByRecursion (Inside order) G → Distinct order
-    → Apart left order → AreSteps rows left ts → ((a : Env X) → kept ts a ≡ true → block a ≡ true)
-    → ((a : Env X) → all_hold cs a ≡ true → kept ts a ≡ true)
+    → Apart left order → AreSteps rows left us ts
+    → ((a : Env X) → kept us ts a ≡ true → block a ≡ true)
+    → ((a : Env X) → all_hold cs a ≡ true → kept us ts a ≡ true)
     → IsPartOf (order ++ left) cs (flat_map (nested ts) G)
     (flat_map (λ g. filter block (product rows order g)) G)
-block_law {X} rows free cs block ts order left G re inside distinct apart steps settles sound =
+block_law {X} rows free cs block us ts order left G re inside distinct apart steps settles sound =
     record {
-      stays = kept ts;
-      same = record {
-        each = λ f.
-            (flat_map_on (nested ts) (λ g. filter (kept ts) (product rows order g)) G
-            (all_map _ _ G
-            (λ g h. nested_in_order rows free ts order left g re h distinct apart steps)
-            inside)).each f
-            ∙ ap (tally f)
-            (flat_map_same _ _ G
-            (λ g. sym
-            (filter-filter block (kept ts) (product rows order g)
-            ∙ filter_agree _ _ (λ a. and_implied (block a) (kept ts a) (settles a))
-            (product rows order g)))
-            ∙ sym (filter-flat_map (kept ts) (λ g. filter block (product rows order g)) G));
-      };
+      stays = kept us ts;
+      permutes =
+          subst (IsPermutation (flat_map (nested ts) G))
+          (flat_map_same _ _ G
+          (λ g. sym
+          (filter-filter block (kept us ts) (product rows order g)
+          ∙ filter_agree _ _ (λ a. and_implied (block a) (kept us ts a) (settles a))
+          (product rows order g)))
+          ∙ sym (filter-flat_map (kept us ts) (λ g. filter block (product rows order g)) G))
+          (flat_map_permutes (nested ts) (λ g. filter (kept us ts) (product rows order g)) G
+          (all_map _ _ G
+          (λ g h. nested_in_order rows free us ts order left g re h distinct apart steps) inside));
       left_out = λ h e a agrees.
-          not_both (all_hold cs a) (kept ts a) (kept ts h) (sound a)
-          (kept_looks rows ts left h a steps
+          not_both (all_hold cs a) (kept us ts a) (kept us ts h) (sound a)
+          (kept_looks rows us ts left h a steps
           (all_reorders _ _ _ re (agree_first order left h a agrees))
           (agree_second order left h a agrees)) e;
     }
 
 -- one block of all items, from the one empty assignment: nothing is left out
 pub join_law : {X : Type 0} {free : ℕ → Bool} (rows : ℕ → Env X → List X) → AreFree free rows
-    → (cs : List (Env X → Bool)) (ts : List (Step X)) (order : List ℕ) (env : Env X)
+    → (cs us : List (Env X → Bool)) (ts : List (Step X)) (order : List ℕ) (env : Env X)
     → Rearranges free (step_items ts) order → Inside order env → Distinct order
-    → AreSteps rows [] ts → ((a : Env X) → kept ts a ≡ true → all_hold cs a ≡ true)
-    → ((a : Env X) → all_hold cs a ≡ true → kept ts a ≡ true)
-    → SameTally (nested ts env) (filter (all_hold cs) (product rows order env))
-join_law rows free cs ts order env re inside distinct steps settles sound = record {
-  each =
-      λ f. (nested_in_order rows free ts order [] env re inside distinct tt steps).each f
-      ∙ ap (tally f)
-      (filter_agree _ _ (λ a. alike (kept ts a) (all_hold cs a) (settles a) (sound a))
-      (product rows order env));
-}
+    → AreSteps rows [] us ts → ((a : Env X) → kept us ts a ≡ true → all_hold cs a ≡ true)
+    → ((a : Env X) → all_hold cs a ≡ true → kept us ts a ≡ true)
+    → IsPermutation (nested ts env) (filter (all_hold cs) (product rows order env))
+join_law rows free cs us ts order env re inside distinct steps settles sound =
+    subst (IsPermutation (nested ts env))
+    (filter_agree _ _ (λ a. alike (kept us ts a) (all_hold cs a) (settles a) (sound a))
+    (product rows order env))
+    (nested_in_order rows free us ts order [] env re inside distinct tt steps)

@@ -5,15 +5,17 @@ use Rattle.std.specs.declared.cmp.Ordering.{Ordering}
 use Rattle.std.specs.List.{AllByRecursion, filter}
 use Rattle.std.specs.declared.cmp.Ordering.TheVariants.{Less, Equal, Greater}
 use Rattle.std.specs.Cmp.{IsTotalOrder}
-use Rattle.std.proofs.Common.{◌≡◌, Bool, true, List, [], ◌∷◌, ℕ, ◌+◌, false, cond, refl, arith, ap}
+use Rattle.std.proofs.Common.{◌≡◌, Bool, true, List, [], ◌∷◌, false, cond, refl, ap}
 use Rattle.std.proofs.Common.{◌∙◌, sym, subst, not, ◌&&◌}
 use Rattle.std.proofs.lemmas.Cmp.{upto, tied_back}
 use Rattle.std.proofs.lemmas.List.Elements.{filter_agree}
 use Rattle.list_laws.specs.Order.{Ascends, insert_by, sort_by}
 use Rattle.list_laws.specs.Stretch.{Rises, stretch}
-use Rattle.list_laws.specs.Tally.{tally, SameTally}
+use Rattle.list_laws.specs.Tally.{SameTally}
 use Rattle.list_laws.proofs.Bools.{not_true}
 use Rattle.list_laws.proofs.Lists.{all_map, all_filter, all_both, filter_all}
+use Rattle.list_laws.proofs.Permutations.{SameTally-from_permutation}
+use Rattle.list_laws.proofs.Permuted.{IsPermutation-sort_by}
 use Rattle.list_laws.proofs.Stretches.{stretch_is}
 
 -- a test that keeps true upwards rises along an ordered list
@@ -24,23 +26,10 @@ Rises-from_order cmp p up [] h = tt
 Rises-from_order cmp p up (x ∷ xs) h =
     (λ e. all_map _ _ xs (λ y l. up x y l e) h.0, Rises-from_order cmp p up xs h.1)
 
-tally_insert : {X : Type 0} (f : X → ℕ) (cmp : X → X → Ordering) (x : X) (xs : List X)
-    → tally f (insert_by cmp x xs) ≡ f x + tally f xs
-tally_insert f cmp x [] = refl
-tally_insert f cmp x (y ∷ ys) =
-    elim (is_le (cmp x y)) as (λ b. tally f (cond b (x ∷ y ∷ ys) (y ∷ insert_by cmp x ys))
-    ≡ f x + (f y + tally f ys)) [ true ↦ refl | false ↦ omega (arith, tally_insert f cmp x ys) ]
-
-tally-sort_by : {X : Type 0} (f : X → ℕ) (cmp : X → X → Ordering) (xs : List X)
-    → tally f (sort_by cmp xs) ≡ tally f xs
-tally-sort_by f cmp [] = refl
-tally-sort_by f cmp (y ∷ ys) =
-    tally_insert f cmp y (sort_by cmp ys) ∙ ap (λ n. f y + n) (tally-sort_by f cmp ys)
-
--- a sort only moves elements
+-- a sort has the same tallies
 pub SameTally-sort_by : {X : Type 0} (cmp : X → X → Ordering) (xs : List X)
     → SameTally (sort_by cmp xs) xs
-SameTally-sort_by cmp xs = record { each = λ f. tally-sort_by f cmp xs }
+SameTally-sort_by cmp xs = SameTally-from_permutation _ xs (IsPermutation-sort_by cmp xs)
 
 pub all_insert : {X : Type 0} (P : X → Type 0) (cmp : X → X → Ordering) (x : X) (xs : List X) → P x
     → AllByRecursion P xs → AllByRecursion P (insert_by cmp x xs)

@@ -47,6 +47,16 @@ pub nothing : {X : Type 0} (ys : List X) → 0 ≡ tally (λ z. 1) ys → ys ≡
 nothing [] h = refl
 nothing (y ∷ ys) h = absurd (omega arith)
 
+-- without an element that both have, lists keep equal tallies
+pub split_rest : {X : Type 0} (x : X) (xs ys : List X) (s : Split x ys) → SameTally (x ∷ xs) ys
+    → SameTally xs (s.front ++ s.back)
+split_rest x xs ys s h =
+    record {
+      each = λ f. let whole : f x + tally f xs ≡ tally f (s.front ++ x ∷ s.back) = h.each f
+          ∙ ap (tally f) s.is in
+          omega (arith, whole, tally-append f s.front (x ∷ s.back), tally-append f s.front s.back);
+    }
+
 -- where equality can be tested, lists with the same tallies are permutations of each other
 pub IsPermutation-from_tally : {X : Type 0} (E : X → X → Bool) → ((x y : X) → E x y ≡ true → x ≡ y)
     → ((x : X) → E x x ≡ true) → (xs ys : List X) → SameTally xs ys → IsPermutation xs ys
@@ -57,14 +67,8 @@ IsPermutation-from_tally {X} E same itself (x ∷ xs) ys h =
     let one : 1 ≤ tally (λ z. cond (E x z) 1 0) ys =
     rw (← h.each (λ z. cond (E x z) 1 0), itself x) (omega arith) in
     let s : Split x ys = split_at E same x ys one in
-    let rest : SameTally xs (s.front ++ s.back) =
-    record {
-      each = λ f. let whole : f x + tally f xs ≡ tally f (s.front ++ x ∷ s.back) = h.each f
-          ∙ ap (tally f) s.is in
-          omega (arith, whole, tally-append f s.front (x ∷ s.back), tally-append f s.front s.back);
-    } in
     subst (λ (zs : List X). IsPermutation (x ∷ xs) zs) (sym s.is)
     (IsPermutation-trans _ _ _
     (IsPermutation-cons x xs (s.front ++ s.back)
-    (IsPermutation-from_tally E same itself xs (s.front ++ s.back) rest))
+    (IsPermutation-from_tally E same itself xs (s.front ++ s.back) (split_rest x xs ys s h)))
     (IsPermutation-sym _ _ (IsPermutation-middle s.front x s.back)))

@@ -3,10 +3,14 @@ use Rattle.std.specs.Cmp.{IsEquivalence}
 use Rattle.std.specs.List.{AllByRecursion, filter, flat_map}
 use Rattle.std.proofs.Common.{◌≡◌, Bool, true, List, [], ◌∷◌, refl, ◌∙◌, ℕ, false, cond, not, ◌&&◌}
 use Rattle.std.proofs.Common.{◌||◌, ◌+◌, arith, ap, sym, ◌++◌, ◌≤◌, zero-add}
-use Rattle.list_laws.specs.FirstComing.{has, keep_first, IsOnce}
+use Rattle.list_laws.specs.FirstComing.{has, keep_first}
 use Rattle.list_laws.specs.Tally.{tally, SameTally}
 use Rattle.list_laws.proofs.Tallies.{tally_same, tally_add, tally_zero, tally-filter, tally_agree}
 use Rattle.list_laws.proofs.Lists.{all_append, all_map}
+
+-- x is one of the rows, and the only one of them that is the same
+pub record IsOnce {X : Type 0} (E : X → X → Bool) (rows : List X) (x : X) : Type 0 where
+  pub weighs : (f : X → ℕ) → tally (λ r. cond (E x r) (f r) 0) rows ≡ f x
 
 pub has_congr : {X : Type 0} {E : X → X → Bool} → IsEquivalence E → (seen : List X) (x r : X)
     → E x r ≡ true → has E seen x ≡ has E seen r

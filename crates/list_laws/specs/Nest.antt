@@ -2,7 +2,7 @@
 use Rattle.std.specs.Prelude.{List, Option, ℕ, Some, slice_set, Bool, true, false, cond, [], ◌∷◌}
 use Rattle.std.specs.Prelude.{◌≡◌, None, slice_index_or, ◌≢◌, ◌&&◌, ◌<◌, length}
 use Rattle.std.specs.List.{AllByRecursion, flat_map, filter}
-use Rattle.list_laws.specs.Tally.{SameTally}
+use Rattle.std.specs.List.Sorted.{IsPermutation}
 
 -- an assignment: a row for each item that is placed, and nothing for the others
 abbrev pub Env : Type 0 → Type 0
@@ -22,12 +22,10 @@ abbrev pub Agree : {X : Type 0} → List ℕ → Env X → Env X → Type 0
 Agree items env a = AllByRecursion (λ i. slice_index_or a i None ≡ slice_index_or env i None) items
 
 -- a loop: the item that it places; the rows that it walks, given those of the loops outside it; and
--- the test that a row must pass for the loops inside. `used` plays no part in the loop itself: it
--- says which of the item's rows the walk was asked for
+-- the test that a row must pass for the loops inside
 pub record Step (X : Type 0) : Type 0 where
   pub item : ℕ
   pub walk : Env X → List X
-  pub used : Env X → Bool
   pub test : Env X → Bool
 
 -- what the innermost loop sees, in its order
@@ -57,10 +55,12 @@ pub data Rearranges (free : ℕ → Bool) : List ℕ → List ℕ → Type 0 whe
 abbrev pub AreFree : {X : Type 0} → (ℕ → Bool) → (ℕ → Env X → List X) → Type 0
 AreFree {X} free rows = (i : ℕ) → free i ≡ true → (env a : Env X) → rows i a ≡ rows i env
 
--- the row of each loop is one that its walk was asked for, and passes its test
-abbrev pub kept : {X : Type 0} → List (Step X) → Env X → Bool
-kept [] a = true
-kept (t ∷ ts) a = t.used a && (t.test a && kept ts a)
+-- the row of each loop is one that its walk was asked for, and passes its test; the list has for
+-- each loop which of its item's rows the walk was asked for
+abbrev pub kept : {X : Type 0} → List (Env X → Bool) → List (Step X) → Env X → Bool
+kept [] loops a = true
+kept (asked ∷ others) [] a = true
+kept (asked ∷ others) (t ∷ ts) a = asked a && (t.test a && kept others ts a)
 
 -- the items in the order of their loops
 abbrev pub step_items : {X : Type 0} → List (Step X) → List ℕ
@@ -73,17 +73,22 @@ Looks {X} items p = (env a : Env X) → Agree items env a → p a ≡ p env
 
 -- a loop that keeps its word, after these items were placed: it walks, in some order, just those of
 -- its item's rows that it was asked for; and what it looks at is placed
-pub record IsStep {X : Type 0} (rows : ℕ → Env X → List X) (placed : List ℕ) (t : Step X) : Type 0
+pub record IsStep {X : Type 0} (rows : ℕ → Env X → List X) (placed : List ℕ)
+    (asked : Env X → Bool) (t : Step X) : Type 0
   where
     pub walks : (env : Env X) → t.item < length env
-        → SameTally (t.walk env) (filter (λ x. t.used (place env t.item x)) (rows t.item env))
-    pub used_looks : Looks (t.item ∷ placed) t.used
+        → IsPermutation (t.walk env) (filter (λ x. asked (place env t.item x)) (rows t.item env))
+    pub asked_looks : Looks (t.item ∷ placed) asked
     pub test_looks : Looks (t.item ∷ placed) t.test
 
 -- each loop keeps its word, after those outside it
-abbrev pub AreSteps : {X : Type 0} → (ℕ → Env X → List X) → List ℕ → List (Step X) → Type 0
-AreSteps rows placed [] = Unit {0}
-AreSteps rows placed (t ∷ ts) = IsStep rows placed t × AreSteps rows (t.item ∷ placed) ts
+abbrev pub AreSteps : {X : Type 0} → (ℕ → Env X → List X) → List ℕ → List (Env X → Bool)
+    → List (Step X) → Type 0
+AreSteps rows placed [] [] = Unit {0}
+AreSteps rows placed [] (t ∷ ts) = ⊥
+AreSteps rows placed (asked ∷ others) [] = ⊥
+AreSteps rows placed (asked ∷ others) (t ∷ ts) =
+    IsStep rows placed asked t × AreSteps rows (t.item ∷ placed) others ts
 
 -- each number stands once
 abbrev pub Distinct : List ℕ → Type 0
@@ -104,6 +109,6 @@ pub record IsPartOf {X : Type 0} (items : List ℕ) (conjuncts : List (Env X →
     (found members : List (Env X)) : Type 0
   where
     pub stays : Env X → Bool
-    pub same : SameTally found (filter stays members)
+    pub permutes : IsPermutation found (filter stays members)
     pub left_out : (h : Env X) → stays h ≡ false → (a : Env X) → Agree items h a
         → all_hold conjuncts a ≡ false

@@ -1,7 +1,7 @@
 -- What nested loops find, in whatever order their items are placed.
 use Rattle.std.specs.Prelude.{◌≡◌, ℕ, Bool, true, List, [], ◌++◌}
 use Rattle.std.specs.List.{AllByRecursion, flat_map, filter}
-use Rattle.list_laws.specs.Tally.{SameTally}
+use Rattle.std.specs.List.Sorted.{IsPermutation}
 use Rattle.list_laws.specs.Nest.{Env, all_hold, Step, nested, product, Rearranges, AreFree, kept}
 use Rattle.list_laws.specs.Nest.{step_items, AreSteps, Distinct, Apart, Inside, IsPartOf}
 
@@ -10,10 +10,10 @@ use Rattle.list_laws.specs.Nest.{step_items, AreSteps, Distinct, Apart, Inside, 
 abbrev pub LoopsFilterTheProduct : Type 0 → Type 0
 LoopsFilterTheProduct X =
     (free : ℕ → Bool) (rows : ℕ → Env X → List X) → AreFree free rows
-    → (loops : List (Step X)) (order : List ℕ) (env : Env X)
+    → (asked : List (Env X → Bool)) (loops : List (Step X)) (order : List ℕ) (env : Env X)
     → Rearranges free (step_items loops) order → Inside order env → Distinct order
-    → AreSteps rows [] loops
-    → SameTally (nested loops env) (filter (kept loops) (product rows order env))
+    → AreSteps rows [] asked loops
+    → IsPermutation (nested loops env) (filter (kept asked loops) (product rows order env))
 
 -- over any assignments of the items to the left of a block, the block's loops find the extensions
 -- by rows of its items on which the block's conjuncts hold, but for some that nothing to the right
@@ -21,11 +21,12 @@ LoopsFilterTheProduct X =
 abbrev pub BlocksLeaveOutWhatFails : Type 0 → Type 0
 BlocksLeaveOutWhatFails X =
     (free : ℕ → Bool) (rows : ℕ → Env X → List X) → AreFree free rows
-    → (conjuncts : List (Env X → Bool)) (block_holds : Env X → Bool) (loops : List (Step X))
-    (order left : List ℕ) (found : List (Env X))
+    → (conjuncts : List (Env X → Bool)) (block_holds : Env X → Bool)
+    (asked : List (Env X → Bool)) (loops : List (Step X)) (order left : List ℕ)
+    (found : List (Env X))
     → Rearranges free (step_items loops) order → AllByRecursion (Inside order) found
-    → Distinct order → Apart left order → AreSteps rows left loops
-    → ((a : Env X) → kept loops a ≡ true → block_holds a ≡ true)
-    → ((a : Env X) → all_hold conjuncts a ≡ true → kept loops a ≡ true)
+    → Distinct order → Apart left order → AreSteps rows left asked loops
+    → ((a : Env X) → kept asked loops a ≡ true → block_holds a ≡ true)
+    → ((a : Env X) → all_hold conjuncts a ≡ true → kept asked loops a ≡ true)
     → IsPartOf (order ++ left) conjuncts (flat_map (nested loops) found)
     (flat_map (λ g. filter block_holds (product rows order g)) found)

@@ -10,6 +10,11 @@ abbrev pub Ascends : {X : Type 0} → (X → X → Ordering) → List X → Type
 Ascends cmp [] = Unit {0}
 Ascends cmp (x ∷ xs) = AllByRecursion (λ y. is_le (cmp x y) ≡ true) xs × Ascends cmp xs
 
+-- each member is below all later ones, so no two tie
+abbrev pub RisesStrictly : {X : Type 0} → (X → X → Ordering) → List X → Type 0
+RisesStrictly cmp [] = Unit {0}
+RisesStrictly cmp (x ∷ xs) = AllByRecursion (λ y. cmp x y ≡ Less) xs × RisesStrictly cmp xs
+
 -- before the first member that is not less
 abbrev pub insert_by : {X : Type 0} → (X → X → Ordering) → X → List X → List X
 insert_by cmp x [] = x ∷ []
@@ -19,8 +24,3 @@ insert_by cmp x (y ∷ ys) = cond (is_le (cmp x y)) (x ∷ y ∷ ys) (y ∷ inse
 abbrev pub sort_by : {X : Type 0} → (X → X → Ordering) → List X → List X
 sort_by cmp [] = []
 sort_by cmp (x ∷ xs) = insert_by cmp x (sort_by cmp xs)
-
--- each key is below all later ones, so no two tie
-abbrev pub RisesStrictly : {K : Type 0} → (K → K → Ordering) → List K → Type 0
-RisesStrictly R [] = Unit {0}
-RisesStrictly R (k ∷ ks) = AllByRecursion (λ j. R k j ≡ Less) ks × RisesStrictly R ks

@@ -2,7 +2,7 @@
 
 ghost use Rattle.std.specs.Prelude.{◌≡◌, Bool, true, not, ◌&&◌, List};
 ghost use Rattle.std.specs.List.{filter};
-ghost use Rattle.std.specs.List.Sorted.{IsPermutation};
+ghost use Rattle.std.specs.List.Sorted.{IsPermutation, IsSorted, IsStable};
 ghost use Rattle.std.specs.Cmp.{IsTotalOrder};
 ghost use Rattle.std.specs.declared.cmp.Ordering.{Ordering};
 ghost use Rattle.list_laws.specs.Tally.{SameTally};
@@ -16,11 +16,16 @@ pub fn tallies_tell_permutations<T>()
     ensures kept { (xs ys : List T) → IsPermutation xs ys → SameTally xs ys }
 {}
 
-/// A sort gives its members in order, and has each of them as often.
+/// A sort gives its members in order, has each of them as often, and keeps the order of those that
+/// tie; and it is the only list that is in order and does so.
 pub fn sorts_only_move_members<T>()
     ensures ordered { (cmp : T → T → Ordering) → IsTotalOrder cmp → (xs : List T)
         → Ascends cmp (sort_by cmp xs) }
-    ensures kept { (cmp : T → T → Ordering) (xs : List T) → SameTally (sort_by cmp xs) xs }
+    ensures kept { (cmp : T → T → Ordering) (xs : List T) → IsPermutation (sort_by cmp xs) xs }
+    ensures stable { (cmp : T → T → Ordering) → IsTotalOrder cmp → (xs : List T)
+        → IsStable cmp xs (sort_by cmp xs) }
+    ensures only { (cmp : T → T → Ordering) → IsTotalOrder cmp → (xs ys : List T)
+        → IsSorted cmp ys → IsStable cmp xs ys → ys ≡ sort_by cmp xs }
 {}
 
 /// A stretch is the filter of its list by both of its ends, where the list is in order for them:
