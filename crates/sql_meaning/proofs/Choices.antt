@@ -7,16 +7,14 @@ use Rattle.list_laws.proofs.Lists.{all_append, all_flat_map}
 use Rattle.list_laws.proofs.FirstComings.{all_keep}
 use Rattle.list_laws.proofs.Bools.{and_left, and_right}
 use Rattle.sql_meaning.specs.Paths.{Edge, KeyExpr}
-use Rattle.sql_meaning.specs.Terms.{Low, High, Term, part_of, keys_of, TermKind, Equals, Within}
-use Rattle.sql_meaning.specs.Terms.{IsNothing, MayUse, Carries, LowFrom, HighFrom}
-use Rattle.sql_meaning.specs.Choices.{ColumnTerms, part_or, edge_or, first_that, terms_at, keys_in}
-use Rattle.sql_meaning.specs.Choices.{is_usable, suits, fits_column, Taken, edge_of, one_or_none}
+use Rattle.sql_meaning.specs.Terms.{Low, High, Term, part_of, TermKind, Equals, Within}
+use Rattle.sql_meaning.specs.Terms.{IsNothing, MayUse, Carries, EdgeFrom, LowFrom, HighFrom}
+use Rattle.sql_meaning.specs.Choices.{ColumnTerms, part_or, edge_or, first_that, terms_at}
+use Rattle.sql_meaning.specs.Choices.{suits, fits_column, Taken, edge_of, one_or_none}
 use Rattle.sql_meaning.specs.Choices.{take_bounds, take_equal, seek_terms, number_list, consumed_of}
 use Rattle.sql_meaning.specs.Rows.{Site, AtColumn, AtRowid}
 use Rattle.sql_meaning.specs.Orders.{same_site, same_collation}
-use Rattle.sql_meaning.specs.Expressions.{names}
-use Rattle.sql_meaning.specs.Statements.{all_in, has_number}
-use Rattle.sql_meaning.specs.UsedTerms.{KeysPlaced, AllOf, Consumes}
+use Rattle.sql_meaning.specs.UsedTerms.{is_usable, AreUsable, AllOf, Consumes}
 use Rattle.sql_meaning.specs.Values.{Collation}
 use Rattle.sql_meaning.specs.Schemas.{IndexColumn}
 use Rattle.sql_meaning.specs.OrderState.{is_alias, column_site}
@@ -24,7 +22,6 @@ use Rattle.sql_meaning.specs.IndexLists.{SortColumn}
 use Rattle.sql_meaning.proofs.Terms.{some_is}
 use Rattle.sql_meaning.proofs.TiedPositions.{site_is, collation_is}
 use Rattle.sql_meaning.proofs.Rises.{spot_of, alias_is}
-use Rattle.sql_meaning.proofs.Offers.{all_in_all}
 use Rattle.sql_meaning.proofs.Paths.{all_sort}
 
 -- the terms of a column as they are listed: of the column, of the right kind, and each a term of
@@ -65,17 +62,6 @@ at_is P site [] h = (record { equals = tt; lows = tt; highs = tt }, refl)
 at_is P site (c ∷ cs) h =
     at_case P site c (terms_at site cs) h.0 (at_is P site cs h.1) (same_site c.column site) refl
 
-keys_all : (placed : List ℕ) (ks : List KeyExpr) → keys_in placed ks ≡ true
-    → AllByRecursion (λ k. AllByRecursion (λ i. has_number i placed ≡ true) (names k.expr)) ks
-keys_all placed [] h = tt
-keys_all placed (k ∷ ks) h = (
-  all_in_all (names k.expr) placed (and_left _ (keys_in placed ks) h),
-  keys_all placed ks (and_right (all_in (names k.expr) placed) _ h),
-)
-
-pub usable_placed : (placed : List ℕ) (t : Term) → is_usable placed t ≡ true → KeysPlaced placed t
-usable_placed placed t h = keys_all placed (keys_of t.kind) h
-
 suits_case : (column : ℕ) (kind : TermKind) (a b : Collation)
     → suits (AtColumn column) kind (same_collation a b) ≡ true → (a ≡ b) ⊎ (kind ≡ IsNothing)
 suits_case column IsNothing a b h = inr refl
@@ -104,61 +90,35 @@ pub record IsTaken (P : Term → Type 0) (placed : List ℕ) (alias : Option ℕ
     (taken : Taken) : Type 0
   where
     pub carries : Carries alias ss taken.eqs taken.low taken.high taken.used
-    pub usable : AllByRecursion (KeysPlaced placed) taken.used
+    pub usable : AreUsable placed taken.used
     pub terms : AllByRecursion P taken.used
 
--- a bound that is taken
-pub record IsLow (P : Term → Type 0) (placed : List ℕ) (alias : Option ℕ) (s : SortColumn)
-    (low : Option Term) : Type 0
+-- a bound that is taken: the lower or the upper one
+pub record IsBound (From : Option Edge → List Term → Type 0) (P : Term → Type 0)
+    (placed : List ℕ) (bound : Option Term) : Type 0
   where
-    pub is : LowFrom alias s (edge_of low) (one_or_none low)
-    pub usable : AllByRecursion (KeysPlaced placed) (one_or_none low)
-    pub terms : AllByRecursion P (one_or_none low)
+    pub is : From (edge_of bound) (one_or_none bound)
+    pub usable : AreUsable placed (one_or_none bound)
+    pub terms : AllByRecursion P (one_or_none bound)
 
-pub record IsHigh (P : Term → Type 0) (placed : List ℕ) (alias : Option ℕ) (s : SortColumn)
-    (high : Option Term) : Type 0
-  where
-    pub is : HighFrom alias s (edge_of high) (one_or_none high)
-    pub usable : AllByRecursion (KeysPlaced placed) (one_or_none high)
-    pub terms : AllByRecursion P (one_or_none high)
-
-pub low_is : (P : Term → Type 0) (placed : List ℕ) (alias : Option ℕ) (s : SortColumn)
-    (column : Site)
-    (p : Term → Bool)
-    → ((t : Term) → t.column ≡ column → p t ≡ true → MayUse alias s t × KeysPlaced placed t)
+pub bound_is : (kind : KeyExpr → Bool → TermKind) (P : Term → Type 0) (placed : List ℕ)
+    (alias : Option ℕ) (s : SortColumn) (column : Site) (p : Term → Bool)
+    → ((t : Term) → t.column ≡ column → p t ≡ true
+    → MayUse alias s t × (is_usable placed t ≡ true))
     → (ts : List Term)
     → AllByRecursion
     (λ t. (t.column ≡ column)
-    × ((e : Edge) × (edge_or t.kind ≡ Some e) × (t.kind ≡ Low e.key e.inclusive)) × P t) ts
-    → (low : Option Term) → first_that p ts ≡ low → IsLow P placed alias s low
-low_is P placed alias s column p may ts h None f = record { is = refl; usable = tt; terms = tt }
-low_is P placed alias s column p may ts h (Some t) f =
+    × ((e : Edge) × (edge_or t.kind ≡ Some e) × (t.kind ≡ kind e.key e.inclusive)) × P t) ts
+    → (bound : Option Term) → first_that p ts ≡ bound
+    → IsBound (EdgeFrom kind alias s) P placed bound
+bound_is kind P placed alias s column p may ts h None f =
+    record { is = refl; usable = tt; terms = tt }
+bound_is kind P placed alias s column p may ts h (Some t) f =
     let r = first_is _ p ts t h f in
     let m = may t r.0.0 r.1 in
     record {
       is =
-          subst (λ (o : Option Edge). LowFrom alias s o (t ∷ [])) (sym r.0.1.1)
-          (t, refl, m.0, r.0.1.2);
-      usable = (m.1, tt);
-      terms = (r.0.2, tt);
-    }
-
-pub high_is : (P : Term → Type 0) (placed : List ℕ) (alias : Option ℕ) (s : SortColumn)
-    (column : Site)
-    (p : Term → Bool)
-    → ((t : Term) → t.column ≡ column → p t ≡ true → MayUse alias s t × KeysPlaced placed t)
-    → (ts : List Term)
-    → AllByRecursion
-    (λ t. (t.column ≡ column)
-    × ((e : Edge) × (edge_or t.kind ≡ Some e) × (t.kind ≡ High e.key e.inclusive)) × P t) ts
-    → (high : Option Term) → first_that p ts ≡ high → IsHigh P placed alias s high
-high_is P placed alias s column p may ts h None f = record { is = refl; usable = tt; terms = tt }
-high_is P placed alias s column p may ts h (Some t) f =
-    let r = first_is _ p ts t h f in
-    let m = may t r.0.0 r.1 in
-    record {
-      is =
-          subst (λ (o : Option Edge). HighFrom alias s o (t ∷ [])) (sym r.0.1.1)
+          subst (λ (o : Option Edge). EdgeFrom kind alias s o (t ∷ [])) (sym r.0.1.1)
           (t, refl, m.0, r.0.1.2);
       usable = (m.1, tt);
       terms = (r.0.2, tt);
@@ -166,7 +126,7 @@ high_is P placed alias s column p may ts h (Some t) f =
 
 pub bounds_taken : (P : Term → Type 0) (placed : List ℕ) (alias : Option ℕ) (s : SortColumn)
     (ss : List SortColumn) (low high : Option Term)
-    → IsLow P placed alias s low → IsHigh P placed alias s high
+    → IsBound (LowFrom alias s) P placed low → IsBound (HighFrom alias s) P placed high
     → IsTaken P placed alias (s ∷ ss) (take_bounds low high)
 bounds_taken P placed alias s ss low high l h = record {
   carries = (one_or_none low, one_or_none high, refl, l.is, h.is);
@@ -176,7 +136,7 @@ bounds_taken P placed alias s ss low high l h = record {
 
 equal_taken : (P : Term → Type 0) (placed : List ℕ) (alias : Option ℕ) (s : SortColumn)
     (ss : List SortColumn) (column : Site) (p : Term → Bool)
-    → ((t : Term) → t.column ≡ column → p t ≡ true → MayUse alias s t × KeysPlaced placed t)
+    → ((t : Term) → t.column ≡ column → p t ≡ true → MayUse alias s t × (is_usable placed t ≡ true))
     → (ts : List Term)
     → AllByRecursion (λ t. (t.column ≡ column) × (part_of t.kind ≡ Some (part_or t.kind)) × P t) ts
     → (rest bounds : Taken) → IsTaken P placed alias ss rest
@@ -205,20 +165,20 @@ seek_taken P placed alias columns h (c ∷ cs) =
     (may here.1) ct.equals here.0.equals (seek_terms placed alias columns cs) _
     (seek_taken P placed alias columns h cs)
     (bounds_taken P placed alias (spot_of c) (map spot_of cs) _ _
-    (low_is P placed alias (spot_of c) ct.column (fits_column placed alias c)
+    (bound_is Low P placed alias (spot_of c) ct.column (fits_column placed alias c)
     (may here.1) ct.lows here.0.lows _ refl)
-    (high_is P placed alias (spot_of c) ct.column (fits_column placed alias c)
+    (bound_is High P placed alias (spot_of c) ct.column (fits_column placed alias c)
     (may here.1) ct.highs here.0.highs _ refl))
     (first_that (fits_column placed alias c) ct.equals) refl
   where
     may : (terms_at (column_site alias c.column) columns).column ≡ column_site alias c.column
         → (t : Term) → t.column ≡ (terms_at (column_site alias c.column) columns).column
-        → fits_column placed alias c t ≡ true → MayUse alias (spot_of c) t × KeysPlaced placed t
+        → fits_column placed alias c t ≡ true
+        → MayUse alias (spot_of c) t × (is_usable placed t ≡ true)
     may is t at f = (
       may_use placed alias c t (at ∙ is) f,
-      usable_placed placed t
-          (and_left _
-          (suits (column_site alias c.column) t.kind (same_collation t.collation c.collation)) f),
+      and_left _
+          (suits (column_site alias c.column) t.kind (same_collation t.collation c.collation)) f,
     )
 
 -- the conjuncts of the used terms

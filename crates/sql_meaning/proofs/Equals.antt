@@ -1,13 +1,12 @@
--- A test of equality for assignments.
+-- A test of equality for rows.
 use Rattle.std.specs.Cmp.{signed_Decides}
 use Rattle.std.proofs.Common.{Bool, true, false, ◌&&◌, List, [], ◌∷◌, Option, Some, None, ◌≡◌, refl}
 use Rattle.std.proofs.Common.{ap₂, ap, ℤ, int_eq, ℕ, ◌==◌}
 use Rattle.std.proofs.lemmas.Bool.{eq-eqb, eqb-true}
 use Rattle.list_laws.proofs.Bools.{and_left, and_right, both_true}
 use Rattle.sql_meaning.specs.Values.{Value, Null, Int, Dec, Text, Blob}
-use Rattle.sql_meaning.specs.Rows.{Row, Assignment}
+use Rattle.sql_meaning.specs.Rows.{Row}
 
--- a test of equality for assignments
 abbrev pub list_eq : {X : Type 0} → (X → X → Bool) → List X → List X → Bool
 list_eq E [] [] = true
 list_eq E [] (y ∷ ys) = false
@@ -109,11 +108,12 @@ row_true x y h =
 pub row_itself : (x : Row) → row_eq x x ≡ true
 row_itself x = both_true _ _ (int_eq_itself x.rowid) (list_itself value_eq value_itself x.values)
 
-abbrev pub rows_eq : Assignment → Assignment → Bool
-rows_eq = list_eq (option_eq (option_eq row_eq))
+-- rows that stand in an assignment: of a table, or the missing one
+abbrev pub placed_eq : Option Row → Option Row → Bool
+placed_eq = option_eq row_eq
 
-pub rows_true : (a b : Assignment) → rows_eq a b ≡ true → a ≡ b
-rows_true a b h = list_true _ (option_true _ (option_true _ row_true)) a b h
+pub placed_true : (x y : Option Row) → placed_eq x y ≡ true → x ≡ y
+placed_true x y h = option_true _ row_true x y h
 
-pub rows_itself : (a : Assignment) → rows_eq a a ≡ true
-rows_itself a = list_itself _ (option_itself _ (option_itself _ row_itself)) a
+pub placed_itself : (x : Option Row) → placed_eq x x ≡ true
+placed_itself x = option_itself _ row_itself x

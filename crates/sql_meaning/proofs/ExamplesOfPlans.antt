@@ -1,19 +1,19 @@
 -- Plans at work: seeks, unions, LEFT JOIN; and one plan shown to mean its statement.
 use Rattle.std.specs.Prelude.{codes}
-use Rattle.std.proofs.Common.{◌≡◌, ℕ, pos, false, cond, ◌==◌, List, [], ◌∷◌, Option, Some, None}
-use Rattle.std.proofs.Common.{refl}
+use Rattle.std.proofs.Common.{◌≡◌, ℕ, pos, false, List, [], ◌∷◌, Option, Some, None}
+use Rattle.std.proofs.Common.{refl, true, ◌≤◌, arith}
 use Rattle.list_laws.specs.Nest.{same}
 use Rattle.sql_meaning.specs.Values.{Value, Null, Dec, Text, Integer, BlobAffinity, Numeric, Binary}
 use Rattle.sql_meaning.specs.Rows.{Row, AtColumn}
 use Rattle.sql_meaning.specs.Expressions.{Lit, Column, Rowid, OneOf, IsNull, All, Any, Nil, More}
 use Rattle.sql_meaning.specs.Schemas.{Schema}
 use Rattle.sql_meaning.specs.Paths.{KeyExpr, Path, TableScan, IndexSeek, Union, Nowhere, Then}
-use Rattle.sql_meaning.specs.Paths.{OneKey, ManyKeys}
+use Rattle.sql_meaning.specs.Paths.{EqPart, OneKey, ManyKeys}
 use Rattle.sql_meaning.specs.Terms.{Term, Equals}
 use Rattle.sql_meaning.specs.Statements.{Bound, statement_rows, FitsStatement}
 use Rattle.sql_meaning.specs.Plans.{Loop, Plan, plan_walks}
-use Rattle.sql_meaning.specs.UsedTerms.{AllOf}
-use Rattle.sql_meaning.specs.Offers.{FitsOffers}
+use Rattle.sql_meaning.specs.UsedTerms.{AllOf, Used}
+use Rattle.sql_meaning.specs.Offers.{FitsOffers, IsOffer}
 use Rattle.sql_meaning.specs.OrderState.{FitsOrder}
 use Rattle.sql_meaning.specs.Asked.{answer, Means}
 use Rattle.sql_meaning.proofs.ExampleData.{int, row, table_of_columns, rising, index_on, from}
@@ -128,6 +128,21 @@ missing_row : answer outer tables
     ≡ (int 1 ∷ int 3 ∷ int 1 ∷ text_x ∷ []) ∷ (int 2 ∷ int 3 ∷ Null ∷ Null ∷ []) ∷ []
 missing_row = refl
 
+-- no offers of t, whatever terms they are said to use: a seek by an index of u, by one that isn't
+-- there, or with more parts than its index has columns
+abbrev seek_t : ℕ → List EqPart → Loop
+seek_t index parts = loop 0 (IndexSeek index parts None None) (1 ∷ [])
+
+another_table : (used : Used) → IsOffer outer three_of_b [] (seek_t 1 (one (number_key 3))) used → ⊥
+another_table used h = let no : false ≡ true = h.path.0 in cc
+
+no_index : (used : Used) → IsOffer outer three_of_b [] (seek_t 2 (one (number_key 3))) used → ⊥
+no_index used h = let no : false ≡ true = h.path.0 in cc
+
+too_many_parts : (used : Used)
+    → IsOffer outer three_of_b [] (seek_t 0 (OneKey (number_key 3) ∷ one (number_key 3))) used → ⊥
+too_many_parts used h = let no : 2 ≤ 1 = h.path.1 in omega (arith, no)
+
 -- `SELECT t.a FROM t LEFT JOIN u ON u.c = t.a WHERE u.d IS NULL`: a common conjunct is tested after
 -- the missing row stands
 abbrev without_partner : Bound
@@ -188,16 +203,16 @@ by_direct = equal_to (Some 0) (plain_key (Column 0 0)) ∷ []
 
 loops_are_offers : FitsOffers linked derived_plan
 loops_are_offers = record {
-  used = λ (l : Loop). cond (l.item == 0) (AllOf by_derived) (AllOf by_direct);
+  used = AllOf by_derived ∷ AllOf by_direct ∷ [];
   once = same (0 ∷ 1 ∷ []);
   offered = (
     seek_of_terms linked pairs [] 0 0 false
         (record { path = IndexSeek 0 (one (converted_key 5)) None None; used = by_derived })
-        pairs_fit refl refl,
+        pairs_fit refl refl refl,
     (
       seek_of_terms linked pairs (0 ∷ []) 1 0 false
           (record { path = IndexSeek 0 (one (plain_key (Column 0 0))) None None; used = by_direct })
-          pairs_fit refl refl,
+          pairs_fit refl refl refl,
       tt,
     ),
   );

@@ -157,7 +157,7 @@ branches : OffersBranches three
       used = term_of 0 1 ∷ term_of 1 2 ∷ [];
     }
     ∷ record { path = IndexSeek 1 (one (number_key 3)) None None; used = term_of 2 3 ∷ [] } ∷ [])
-branches = (inr (0, refl), (inr (1, refl), tt))
+branches = (inr (0, refl, refl), (inr (1, refl, refl), tt))
 
 -- it is an OR term, because each branch has a term; `a = 1 OR a = 2` is an IN term in its place,
 -- and `a = 1 OR +b = 2` is neither

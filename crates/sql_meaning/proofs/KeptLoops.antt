@@ -7,6 +7,7 @@ use Rattle.list_laws.specs.Nest.{place, Looks, AreSteps}
 use Rattle.list_laws.specs.Tally.{tally, SameTally}
 use Rattle.list_laws.proofs.Lists.{all_always, filter-filter}
 use Rattle.list_laws.proofs.Tallies.{SameTally-filter}
+use Rattle.list_laws.proofs.Permutations.{IsPermutation-from_tally}
 use Rattle.list_laws.proofs.Bools.{and_left, and_right, both_true, alike}
 use Rattle.sql_meaning.specs.Values.{Value}
 use Rattle.sql_meaning.specs.Rows.{Assignment}
@@ -19,11 +20,14 @@ use Rattle.sql_meaning.specs.Conjuncts.{level_test, first_by}
 use Rattle.sql_meaning.specs.Offers.{IsOffer, AreOffers}
 use Rattle.sql_meaning.specs.Expressions.{names}
 use Rattle.sql_meaning.specs.Evaluation.{holds}
-use Rattle.sql_meaning.specs.UsedTerms.{Used, used_holds, Consumes, UsedPlaced}
+use Rattle.sql_meaning.specs.UsedTerms.{Used, Consumes, UsedPlaced}
 use Rattle.sql_meaning.specs.Paths.{walk}
 use Rattle.sql_meaning.proofs.Databases.{IsDatabase}
+use Rattle.sql_meaning.proofs.Equals.{placed_eq, placed_true, placed_itself}
 use Rattle.sql_meaning.proofs.Offers.{used_looks, walk_used}
 use Rattle.sql_meaning.proofs.TermsHold.{consumed_holds, used_from}
+use Rattle.sql_meaning.proofs.LikeTerms.{term_passes, direct_passes}
+use Rattle.sql_meaning.proofs.PassingTerms.{used_passes}
 use Rattle.sql_meaning.proofs.Terms.{some_is}
 use Rattle.sql_meaning.proofs.Links.{all_at}
 use Rattle.sql_meaning.proofs.Plans.{test_looks, common_looks, test_from, test_at, chosen_weaken}
@@ -71,7 +75,7 @@ same_holds env params bound number c d e f h =
 own_case : (schema : Schema) (bound : Bound) (params : List Value) (consumed placed : List ℕ)
     (l : Loop) (used : Used) (a : Assignment)
     → IsOffer schema bound placed l used → Ours bound consumed l
-    → used_holds a params l.item used ≡ true
+    → used_passes schema bound params l.item used a ≡ true
     → level_test (λ c. owned_by l.item c.owner) params consumed placed l.item 0 bound.conjuncts a
     ≡ true
     → (number : ℕ) (c : Conjunct) → slice_get bound.conjuncts number ≡ Some c
@@ -79,7 +83,8 @@ own_case : (schema : Schema) (bound : Bound) (params : List Value) (consumed pla
     → holds a params c.expr ≡ true
 own_case schema bound params consumed placed l used a o ours u t number c is own true e =
     let r =
-    consumed_holds schema bound params l.item a used number o.comes
+    consumed_holds schema bound params l.item a (term_passes schema bound.items params l.item a)
+    (direct_passes schema bound.items params l.item a) used number o.comes
     (has_all (Consumes used) l.consumed number o.consumes (ours number c is own e)) u in
     same_holds a params bound number c r.0 is r.1 r.3
 own_case schema bound params consumed placed l used a o ours u t number c is own false e =
@@ -92,14 +97,14 @@ own_case schema bound params consumed placed l used a o ours u t number c is own
 own_same : (schema : Schema) (bound : Bound) (params : List Value) (consumed placed : List ℕ)
     (l : Loop) (used : Used) (a : Assignment)
     → is_left bound l.item ≡ true → IsOffer schema bound placed l used → Ours bound consumed l
-    → (used_holds a params l.item used
+    → (used_passes schema bound params l.item used a
     && level_test (λ c. owned_by l.item c.owner) params consumed placed l.item 0 bound.conjuncts a)
     ≡ chosen_hold (λ c. owned_by l.item c.owner) params bound.conjuncts a
 own_same schema bound params consumed placed l used a left o ours =
     alike _ _
     (λ h. chosen_from _ params bound.conjuncts a
     (λ number c is own. own_case schema bound params consumed placed l used a o ours
-    (and_left _ _ h) (and_right (used_holds a params l.item used) _ h) number c is own
+    (and_left _ _ h) (and_right (used_passes schema bound params l.item used a) _ h) number c is own
     (has_number number consumed) refl))
     (λ h. both_true _ _
     (used_from schema bound params l.item a used o.fits o.comes
@@ -115,23 +120,28 @@ own_same schema bound params consumed placed l used a left o ours =
     never true = refl
     never false = refl
 
--- the used terms of an item that isn't LEFT
-abbrev pub uses : Bound → List Value → (Loop → Used) → Loop → Assignment → Bool
-uses bound params used l env =
-    cond (is_left bound l.item) true (used_holds env params l.item (used l))
+-- which rows each loop's walk was asked for: those on which its used terms pass, where its item
+-- isn't LEFT
+abbrev pub asked_by : Schema → Bound → List Value → List Loop → List Used → List (Assignment → Bool)
+asked_by schema bound params [] used = []
+asked_by schema bound params (l ∷ ls) [] = []
+asked_by schema bound params (l ∷ ls) (u ∷ us) =
+    (λ env. cond (is_left bound l.item) true (used_passes schema bound params l.item u env))
+    ∷ asked_by schema bound params ls us
 
-uses_looks : (bound : Bound) (params : List Value) (used : Loop → Used) (l : Loop) (placed : List ℕ)
-    → UsedPlaced placed (used l) → (b : Bool) → is_left bound l.item ≡ b
-    → Looks (l.item ∷ placed) (λ env. cond b true (used_holds env params l.item (used l)))
-uses_looks bound params used l placed p true e env a h = refl
-uses_looks bound params used l placed p false e env a h =
-    used_looks params l.item placed (used l) p env a h
+asked_looks : (schema : Schema) (bound : Bound) (params : List Value) (item : ℕ) (u : Used)
+    (placed : List ℕ)
+    → UsedPlaced placed u → (b : Bool)
+    → Looks (item ∷ placed) (λ env. cond b true (used_passes schema bound params item u env))
+asked_looks schema bound params item u placed p true env a h = refl
+asked_looks schema bound params item u placed p false env a h =
+    used_looks schema bound params item placed u p env a h
 
 -- the walk of a loop, with what a LEFT loop does of it
 loop_same : (schema : Schema) (database : Database) (bound : Bound) (params : List Value)
-    (consumed placed : List ℕ) (l : Loop) (used : Loop → Used) (env : Assignment)
+    (consumed placed : List ℕ) (l : Loop) (used : Used) (env : Assignment)
     → IsDatabase schema bound database → OwnersAreLeft bound
-    → IsOffer schema bound placed l (used l) → Ours bound consumed l → l.item < length env
+    → IsOffer schema bound placed l used → Ours bound consumed l → l.item < length env
     → (b : Bool) → is_left bound l.item ≡ b
     → SameTally
     (missing_if b
@@ -140,7 +150,7 @@ loop_same : (schema : Schema) (database : Database) (bound : Bound) (params : Li
     (place env l.item x))
     (map Some
     (directed_walk l.reverse (walk schema params l.path (item_rows database bound l.item) env)))))
-    (filter (λ x. cond b true (used_holds (place env l.item x) params l.item (used l)))
+    (filter (λ x. cond b true (used_passes schema bound params l.item used (place env l.item x)))
     (cond b
     (or_missing
     (filter
@@ -154,13 +164,13 @@ loop_same schema database bound params consumed placed l used env valid owners o
           (λ x. level_test
           (λ c. owned_by l.item c.owner) params consumed placed l.item 0 bound.conjuncts
           (place env l.item x)) _ _
-          (walk_used schema params (item_alias schema bound l.item) l.path l.reverse
-          (item_rows database bound l.item) placed l.item env (used l) (valid.rising l.item)
-          (valid.aliased l.item) o.carries o.unplaced lt o.keys))).each f
+          (walk_used schema bound params (item_alias schema bound l.item) l.path l.reverse
+          (item_rows database bound l.item) placed l.item env used (valid.rising l.item)
+          (valid.aliased l.item) (valid.texts l.item) o.carries o.unplaced lt o.keys))).each f
           ∙ ap (λ zs. tally f (or_missing zs))
           (filter-filter _ _ (map Some (item_rows database bound l.item))
           ∙ filter_agree _ _
-          (λ x. own_same schema bound params consumed placed l (used l)
+          (λ x. own_same schema bound params consumed placed l used
           (place env l.item x) e o ours)
           (map Some (item_rows database bound l.item)))
           ∙ ap (tally f) (sym (all_of_true (λ x. true) _ (λ x. refl)));
@@ -172,29 +182,32 @@ loop_same schema database bound params consumed placed l used env valid owners o
           (all_of_true _ _
           (λ x. test_from _ params consumed placed l.item 0 bound.conjuncts (place env l.item x)
           (none_owned bound l.item owners e params (place env l.item x))))
-          ∙ (walk_used schema params (item_alias schema bound l.item) l.path l.reverse
-          (item_rows database bound l.item) placed l.item env (used l) (valid.rising l.item)
-          (valid.aliased l.item) o.carries o.unplaced lt o.keys).each f;
+          ∙ (walk_used schema bound params (item_alias schema bound l.item) l.path l.reverse
+          (item_rows database bound l.item) placed l.item env used (valid.rising l.item)
+          (valid.aliased l.item) (valid.texts l.item) o.carries o.unplaced lt o.keys).each f;
     }
 
 -- the loops of a plan are what the laws of nested walks ask
 pub are_steps : (schema : Schema) (database : Database) (bound : Bound) (params : List Value)
-    (consumed placed : List ℕ) (loops : List Loop) (used : Loop → Used)
+    (consumed placed : List ℕ) (loops : List Loop) (used : List Used)
     → IsDatabase schema bound database → OwnersAreLeft bound
     → AreOffers schema bound placed loops used → AllByRecursion (Ours bound consumed) loops
-    → AreSteps (choices database bound params) placed
-    (steps_of schema database bound params consumed (uses bound params used) placed loops)
-are_steps schema database bound params consumed placed [] used valid owners o ours = tt
-are_steps schema database bound params consumed placed (l ∷ ls) used valid owners o ours = (
+    → AreSteps (choices database bound params) placed (asked_by schema bound params loops used)
+    (steps_of schema database bound params consumed placed loops)
+are_steps schema database bound params consumed placed [] [] valid owners o ours = tt
+are_steps schema database bound params consumed placed [] (u ∷ us) valid owners o ours = absurd o
+are_steps schema database bound params consumed placed (l ∷ ls) [] valid owners o ours = absurd o
+are_steps schema database bound params consumed placed (l ∷ ls) (u ∷ us) valid owners o ours = (
   record {
     walks =
         λ env lt.
-        loop_same schema database bound params consumed placed l used env valid owners o.0 ours.0 lt
-        (is_left bound l.item) refl;
-    used_looks = uses_looks bound params used l placed o.0.keys (is_left bound l.item) refl;
+        IsPermutation-from_tally placed_eq placed_true placed_itself _ _
+        (loop_same schema database bound params consumed placed l u env valid owners o.0 ours.0 lt
+        (is_left bound l.item) refl);
+    asked_looks = asked_looks schema bound params l.item u placed o.0.keys (is_left bound l.item);
     test_looks =
         test_looks is_common params consumed placed l.item 0 bound.conjuncts
         (common_looks placed l.item bound.conjuncts);
   },
-  are_steps schema database bound params consumed (l.item ∷ placed) ls used valid owners o.1 ours.1,
+  are_steps schema database bound params consumed (l.item ∷ placed) ls us valid owners o.1 ours.1,
 )

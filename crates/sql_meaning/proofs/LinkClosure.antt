@@ -1,267 +1,163 @@
--- Passes over the links reach every linked column: as many passes as there are links are enough,
--- since each pass but the last reaches both ends of one link more.
+-- Visits along the links reach every linked column, and the list rises.
 use Rattle.std.specs.List.{AllByRecursion, filter}
+use Rattle.std.specs.Ordering.{nat_cmp, is_eq, ordering_then, eq_by_cmp}
+use Rattle.std.specs.declared.cmp.Ordering.{Ordering}
+use Rattle.std.specs.declared.cmp.Ordering.TheVariants.{Less, Equal, Greater}
+use Rattle.std.specs.Cmp.{IsTotalOrder, unsigned_ties}
 use Rattle.std.proofs.Common.{◌≡◌, ◌≢◌, ℕ, zero, suc, ◌+◌, ◌≤◌, Bool, true, false, cond, not, ◌&&◌}
-use Rattle.std.proofs.Common.{◌||◌, ◌==◌, List, [], ◌∷◌, ◌++◌, Some, refl, ap, sym, ◌∙◌, arith}
-use Rattle.std.proofs.Common.{length, slice_get, inl, inr, ◌⊎◌, subst, Option}
+use Rattle.std.proofs.Common.{◌||◌, ◌==◌, List, [], ◌∷◌, ◌++◌, Some, refl, ap, ap₂, sym, ◌∙◌, arith}
+use Rattle.std.proofs.Common.{length, map, slice_get, subst, Option}
 use Rattle.std.proofs.lemmas.Bool.{eqb-true, eq-eqb}
-use Rattle.list_laws.specs.Tally.{tally}
-use Rattle.list_laws.specs.FirstComing.{has}
+use Rattle.std.proofs.lemmas.Cmp.{on_total, then_total, nat_cmp_total, eq_by_cmp_equiv}
+use Rattle.std.proofs.lemmas.List.{length-append, length-map}
+use Rattle.list_laws.specs.FirstComing.{has, keep_first}
 use Rattle.list_laws.specs.Order.{sort_by}
-use Rattle.list_laws.proofs.Bools.{or_later, or_first, and_left, and_right, both_true}
-use Rattle.list_laws.proofs.Orders.{SameTally-sort_by}
-use Rattle.list_laws.proofs.FirstComings.{has_same}
-use Rattle.sql_meaning.specs.Values.{Affinity, Integer, Real, Numeric, TextAffinity, BlobAffinity}
+use Rattle.list_laws.proofs.Bools.{or_later, or_first, or_cases, both_true}
+use Rattle.list_laws.proofs.Bools.{alike}
+use Rattle.list_laws.proofs.Lists.{all_always}
+use Rattle.list_laws.proofs.Orders.{SameTally-sort_by, Ascends-sort_by}
+use Rattle.list_laws.proofs.FirstComings.{has_same, has-keep_first, or_none}
+use Rattle.list_laws.proofs.FirstComings.{RisesStrictly-keep_first}
 use Rattle.sql_meaning.specs.Values.{Collation}
+use Rattle.sql_meaning.specs.Rows.{Site, AtRowid, AtColumn}
+use Rattle.sql_meaning.specs.Orders.{same_site}
 use Rattle.sql_meaning.specs.Expressions.{BExpr, Cmp, IsEqual, ColumnRef, bare_column}
 use Rattle.sql_meaning.specs.Schemas.{Schema}
 use Rattle.sql_meaning.specs.Items.{Item, own_column}
 use Rattle.sql_meaning.specs.Links.{Linked, link, back, chain, Links, affinity_class}
-use Rattle.sql_meaning.specs.TermLists.{same_ref, class_number, Pair, pair_of, link_pair, has_ref}
-use Rattle.sql_meaning.specs.TermLists.{add_if, extend, reach, link_pairs, ref_cmp}
+use Rattle.sql_meaning.specs.TermLists.{same_ref, Pair, pair_of, link_pair, has_ref, touches}
+use Rattle.sql_meaning.specs.TermLists.{other_end, visits, visited, link_pairs, ref_cmp}
+use Rattle.sql_meaning.specs.TermLists.{site_number}
 use Rattle.sql_meaning.specs.TermLaws.{ListsHaveTheLinkedColumns}
 use Rattle.sql_meaning.proofs.ServingExact.{collation_itself}
 use Rattle.sql_meaning.proofs.Terms.{some_is}
+use Rattle.sql_meaning.proofs.TiedPositions.{site_is}
 use Rattle.sql_meaning.proofs.TermLists.{itself, ref_is, linked_are}
 
--- both ends of the link are reached, or neither is
+-- both ends of the link are visited, or neither is
 abbrev IsClosed : List ColumnRef → Pair → Type 0
 IsClosed seen p = has_ref p.first seen ≡ has_ref p.second seen
 
 abbrev AreClosed : List Pair → List ColumnRef → Type 0
 AreClosed ps seen = AllByRecursion (IsClosed seen) ps
 
--- what is reached stays so
-add_case : (x c : ColumnRef) (b : Bool) (seen : List ColumnRef) → has_ref x seen ≡ true
-    → has_ref x (cond b (c ∷ seen) seen) ≡ true
-add_case x c true seen h = or_later (same_ref c x) (has_ref x seen) h
-add_case x c false seen h = h
+or_assoc : (a b c : Bool) → (a || (b || c)) ≡ ((a || b) || c)
+or_assoc true b c = refl
+or_assoc false b c = refl
 
-add_keeps : (x c : ColumnRef) (b : Bool) (seen : List ColumnRef) → has_ref x seen ≡ true
-    → has_ref x (add_if b c seen) ≡ true
-add_keeps x c b seen h = add_case x c (b && not (has_ref c seen)) seen h
+has_join : (x : ColumnRef) (xs ys : List ColumnRef)
+    → has_ref x (xs ++ ys) ≡ (has_ref x xs || has_ref x ys)
+has_join x [] ys = refl
+has_join x (z ∷ zs) ys =
+    ap (λ b. same_ref z x || b) (has_join x zs ys)
+    ∙ or_assoc (same_ref z x) (has_ref x zs) (has_ref x ys)
 
-extend_keeps : (x : ColumnRef) (ps : List Pair) (seen : List ColumnRef) → has_ref x seen ≡ true
-    → has_ref x (extend ps seen) ≡ true
-extend_keeps x [] seen h = h
-extend_keeps x (p ∷ ps) seen h =
-    extend_keeps x ps _
-    (add_keeps x p.first (has_ref p.second (add_if (has_ref p.first seen) p.second seen)) _
-    (add_keeps x p.second (has_ref p.first seen) seen h))
+-- a visit takes a column off the list, and each link that it takes puts one on
+count_case : (b : Bool) (p : Pair) (taken kept ps : List Pair)
+    → length taken + length kept ≡ length ps
+    → length (cond b (p ∷ taken) taken) + length (cond (not b) (p ∷ kept) kept) ≡ suc (length ps)
+count_case true p taken kept ps h = omega (arith, h)
+count_case false p taken kept ps h = omega (arith, h)
 
--- from one end the other is reached
-added : (c : ColumnRef) (b : Bool) (seen : List ColumnRef) → has_ref c seen ≡ b
-    → has_ref c (add_if true c seen) ≡ true
-added c true seen e = rw e e
-added c false seen e = rw e (or_first (same_ref c c) (has_ref c seen) (itself c))
+count_links : (c : ColumnRef) (ps : List Pair)
+    → length (filter (touches c) ps) + length (filter (λ p. not (touches c p)) ps) ≡ length ps
+count_links c [] = refl
+count_links c (p ∷ ps) =
+    count_case (touches c p) p (filter (touches c) ps) (filter (λ p. not (touches c p)) ps) ps
+    (count_links c ps)
 
-add_true : (c : ColumnRef) (b : Bool) (seen : List ColumnRef) → b ≡ true
-    → has_ref c (add_if b c seen) ≡ true
-add_true c b seen h = rw h (added c (has_ref c seen) seen refl)
+fewer : (c : ColumnRef) (next : List ColumnRef) (ps : List Pair) (n : ℕ)
+    → length (c ∷ next) + length ps ≤ suc n
+    → length (map (other_end c) (filter (touches c) ps) ++ next)
+    + length (filter (λ p. not (touches c p)) ps) ≤ n
+fewer c next ps n h =
+    let one : length (map (other_end c) (filter (touches c) ps) ++ next)
+    ≡ length (map (other_end c) (filter (touches c) ps)) + length next =
+    length-append (map (other_end c) (filter (touches c) ps)) next in
+    let two : length (map (other_end c) (filter (touches c) ps)) ≡ length (filter (touches c) ps) =
+    length-map (filter (touches c) ps) (other_end c) in
+    let all = count_links c ps in omega (arith, one, two, all, h)
 
--- where one end is reached, its turn in a pass reaches both
-both_reached : (p : Pair) (seen : List ColumnRef) (a b : Bool) → has_ref p.first seen ≡ a
-    → has_ref p.second seen ≡ b → (a || b) ≡ true
-    → let after : List ColumnRef =
-    add_if (has_ref p.second (add_if (has_ref p.first seen) p.second seen)) p.first
-    (add_if (has_ref p.first seen) p.second seen) in
-    (has_ref p.first after ≡ true) × (has_ref p.second after ≡ true)
-both_reached p seen true b e f h =
-    let second = add_true p.second (has_ref p.first seen) seen e in (
-      add_keeps p.first p.first _ _ (add_keeps p.first p.second (has_ref p.first seen) seen e),
-      add_keeps p.second p.first _ _ second,
-    )
-both_reached p seen false true e f h =
-    let second = add_keeps p.second p.second (has_ref p.first seen) seen f in (
-      add_true p.first _ _ second,
-      add_keeps p.second p.first _ _ second,
-    )
-both_reached p seen false false e f h = absurd (cc)
+-- what is to be visited is visited
+visits_have : (x : ColumnRef) (n : ℕ) (next : List ColumnRef) (ps : List Pair)
+    → length next + length ps ≤ n → has_ref x next ≡ true → has_ref x (visits n next ps) ≡ true
+visits_have x zero [] ps l h = h
+visits_have x zero (c ∷ next) ps l h = absurd (omega (arith, l))
+visits_have x (suc n) [] ps l h = h
+visits_have x (suc n) (c ∷ next) ps l h =
+    let ends = map (other_end c) (filter (touches c) ps) in
+    or_cases (same_ref c x) (has_ref x next) (λ e. or_first (same_ref c x) _ e)
+    (λ e. or_later (same_ref c x) _
+    (visits_have x n (ends ++ next) (filter (λ p. not (touches c p)) ps) (fewer c next ps n l)
+    (has_join x ends next ∙ or_later (has_ref x ends) (has_ref x next) e))) h
 
--- a link that is half reached is reached by the next pass
-abbrev IsFull : List ColumnRef → Pair → Bool
-IsFull seen p = has_ref p.first seen && has_ref p.second seen
-
-abbrev count : List ColumnRef → List Pair → ℕ
-count seen ps = tally (λ p. cond (IsFull seen p) 1 0) ps
-
-count_case : (a b : Bool) → (a ≡ true → b ≡ true) → cond a 1 0 ≤ cond b 1 0
-count_case true true h = omega arith
-count_case true false h = absurd (let no : false ≡ true = h refl in cc)
-count_case false b h = omega arith
-
-full_keeps : (p : Pair) (seen more : List ColumnRef)
-    → ((x : ColumnRef) → has_ref x seen ≡ true → has_ref x more ≡ true)
-    → IsFull seen p ≡ true → IsFull more p ≡ true
-full_keeps p seen more f h =
-    both_true _ _ (f p.first (and_left _ (has_ref p.second seen) h))
-    (f p.second (and_right (has_ref p.first seen) _ h))
-
-count_keeps : (ps : List Pair) (seen more : List ColumnRef)
-    → ((x : ColumnRef) → has_ref x seen ≡ true → has_ref x more ≡ true)
-    → count seen ps ≤ count more ps
-count_keeps [] seen more f = omega arith
-count_keeps (p ∷ ps) seen more f =
-    let one : cond (IsFull seen p) 1 0 ≤ cond (IsFull more p) 1 0 =
-    count_case (IsFull seen p) (IsFull more p) (full_keeps p seen more f) in
-    let rest : count seen ps ≤ count more ps = count_keeps ps seen more f in
-    omega (arith, one, rest)
-
--- either all links are closed, or one is half reached
-abbrev HasHalf : List Pair → List ColumnRef → Type 0
-HasHalf [] seen = ⊥
-HasHalf (p ∷ ps) seen =
-    ((has_ref p.first seen || has_ref p.second seen) ≡ true) × (IsFull seen p ≡ false)
-    ⊎ HasHalf ps seen
-
-decide_one : (a b : Bool) → (a ≡ b) ⊎ (((a || b) ≡ true) × ((a && b) ≡ false))
-decide_one true true = inl refl
-decide_one true false = inr (refl, refl)
-decide_one false true = inr (refl, refl)
-decide_one false false = inl refl
-
-decide_all : (p : Pair) (ps : List Pair) (seen : List ColumnRef)
-    → (IsClosed seen p
-    ⊎ (((has_ref p.first seen || has_ref p.second seen) ≡ true) × (IsFull seen p ≡ false)))
-    → (AreClosed ps seen ⊎ HasHalf ps seen)
-    → (AreClosed (p ∷ ps) seen ⊎ HasHalf (p ∷ ps) seen)
-decide_all p ps seen (inl h) (inl k) = inl (h, k)
-decide_all p ps seen (inl h) (inr k) = inr (inr k)
-decide_all p ps seen (inr h) k = inr (inl h)
-
-decide : (ps : List Pair) (seen : List ColumnRef) → AreClosed ps seen ⊎ HasHalf ps seen
-decide [] seen = inl tt
-decide (p ∷ ps) seen =
-    decide_all p ps seen (decide_one (has_ref p.first seen) (has_ref p.second seen))
-    (decide ps seen)
-
-either_keeps : (p : Pair) (seen more : List ColumnRef)
-    → ((x : ColumnRef) → has_ref x seen ≡ true → has_ref x more ≡ true) → (a b : Bool)
-    → has_ref p.first seen ≡ a → has_ref p.second seen ≡ b → (a || b) ≡ true
-    → (has_ref p.first more || has_ref p.second more) ≡ true
-either_keeps p seen more f true b e g h = or_first _ _ (f p.first e)
-either_keeps p seen more f false true e g h = or_later (has_ref p.first more) _ (f p.second g)
-either_keeps p seen more f false false e g h = absurd (cc)
-
--- after its turn in a pass, a link that was half reached is full
-turn_fills : (p : Pair) (ps : List Pair) (seen : List ColumnRef)
-    → (has_ref p.first seen || has_ref p.second seen) ≡ true
-    → IsFull (extend (p ∷ ps) seen) p ≡ true
-turn_fills p ps seen h =
-    let r = both_reached p seen (has_ref p.first seen) (has_ref p.second seen) refl refl h in
-    both_true _ _ (extend_keeps p.first ps _ r.0) (extend_keeps p.second ps _ r.1)
-
--- a pass makes one link more full, where one was half reached: `done` are the links before it
-pass_counts : (ps : List Pair) (seen : List ColumnRef) (start : List ColumnRef)
-    → ((x : ColumnRef) → has_ref x start ≡ true → has_ref x seen ≡ true) → HasHalf ps start
-    → suc (count start ps) ≤ count (extend ps seen) ps
-pass_counts [] seen start f h = absurd h
-pass_counts (p ∷ ps) seen start f (inl h) =
-    let full : IsFull (extend (p ∷ ps) seen) p ≡ true =
-    turn_fills p ps seen
-    (either_keeps p start seen f (has_ref p.first start) (has_ref p.second start) refl refl h.0) in
-    let rest : count start ps ≤ count (extend (p ∷ ps) seen) ps =
-    count_keeps ps start _ (λ x e. extend_keeps x (p ∷ ps) seen (f x e)) in
-    let now : ◌≡◌ {A = ℕ} (cond (IsFull (extend (p ∷ ps) seen) p) 1 0) 1 =
-    ap (λ b. cond b 1 0) full in
-    let was : ◌≡◌ {A = ℕ} (cond (IsFull start p) 1 0) 0 = ap (λ b. cond b 1 0) h.1 in
-    omega (arith, rest, now, was)
-pass_counts (p ∷ ps) seen start f (inr h) =
-    let one : cond (IsFull start p) 1 0 ≤ cond (IsFull (extend (p ∷ ps) seen) p) 1 0 =
-    count_case (IsFull start p) (IsFull (extend (p ∷ ps) seen) p)
-    (full_keeps p start _ (λ x e. extend_keeps x (p ∷ ps) seen (f x e))) in
-    let rest : suc (count start ps) ≤ count (extend (p ∷ ps) seen) ps =
-    pass_counts ps _ start
-    (λ x e. add_keeps x p.first _ _ (add_keeps x p.second (has_ref p.first seen) seen (f x e))) h in
-    omega (arith, one, rest)
-
--- where all links are closed, a pass reaches nothing more
-closed_turn : (p : Pair) (seen : List ColumnRef) (a : Bool) → has_ref p.first seen ≡ a
-    → has_ref p.second seen ≡ a
-    → add_if (has_ref p.second (add_if (has_ref p.first seen) p.second seen)) p.first
-    (add_if (has_ref p.first seen) p.second seen) ≡ seen
-closed_turn p seen true e f = rw (e, f) (rw (f, e) refl)
-closed_turn p seen false e f = rw e (rw f refl)
-
-closed_extend : (ps : List Pair) (seen : List ColumnRef) → AreClosed ps seen → extend ps seen ≡ seen
-closed_extend [] seen h = refl
-closed_extend (p ∷ ps) seen h =
-    ap (extend ps) (closed_turn p seen (has_ref p.first seen) refl (sym h.0))
-    ∙ closed_extend ps seen h.1
-
-closed_reach : (n : ℕ) (ps : List Pair) (seen : List ColumnRef) → AreClosed ps seen
-    → reach n ps seen ≡ seen
-closed_reach zero ps seen h = refl
-closed_reach (suc n) ps seen h =
-    ap (reach n ps) (closed_extend ps seen h) ∙ closed_reach n ps seen h
-
--- all full is closed
-full_closed : (a b : Bool) → (a && b) ≡ true → a ≡ b
-full_closed true true h = refl
-full_closed true false h = sym h
-full_closed false b h = absurd (cc)
-
-count_most : (ps : List Pair) (seen : List ColumnRef) → count seen ps ≤ length ps
-count_most [] seen = omega arith
-count_most (p ∷ ps) seen =
-    let one : cond (IsFull seen p) 1 0 ≤ 1 = most (IsFull seen p) in
-    let rest : count seen ps ≤ length ps = count_most ps seen in
-    omega (arith, one, rest)
+-- a link that touches the visited column has its other end on the list
+record Splits (c : ColumnRef) (more : List ColumnRef) (p : Pair) (taken kept : List Pair) : Type 0
   where
-    most : (b : Bool) → cond b 1 0 ≤ 1
-    most true = omega arith
-    most false = omega arith
+    pub closed : IsClosed (c ∷ more) p
+    pub rest : AllByRecursion (IsClosed more) kept
+    pub ends : (x : ColumnRef) → has_ref x (map (other_end c) taken) ≡ true
+        → has_ref x more ≡ true
 
-all_full : (ps : List Pair) (seen : List ColumnRef) → length ps ≤ count seen ps
-    → AreClosed ps seen
-all_full [] seen h = tt
-all_full (p ∷ ps) seen h = full_case (all_full ps seen) (IsFull seen p) refl h
-  where
-    full_case : (length ps ≤ count seen ps → AreClosed ps seen) → (b : Bool) → IsFull seen p ≡ b
-        → suc (length ps) ≤ cond b 1 0 + count seen ps → AreClosed (p ∷ ps) seen
-    full_case ih true e k = (
-      full_closed (has_ref p.first seen) (has_ref p.second seen) e,
-      ih (omega (arith, k)),
-    )
-    full_case ih false e k =
-        let most : count seen ps ≤ length ps = count_most ps seen in
-        absurd (omega (arith, k, most))
+turn : (c : ColumnRef) (more : List ColumnRef) (p : Pair) (taken kept : List Pair) (a b : Bool)
+    → same_ref c p.first ≡ a → same_ref c p.second ≡ b
+    → AllByRecursion (IsClosed more) (cond (not (a || b)) (p ∷ kept) kept)
+    → ((x : ColumnRef) → has_ref x (map (other_end c) (cond (a || b) (p ∷ taken) taken)) ≡ true
+    → has_ref x more ≡ true)
+    → Splits c more p taken kept
+turn c more p taken kept true b e g h f =
+    let there : same_ref (other_end c p) p.second ≡ true = rw e (itself p.second) in
+    record {
+      closed =
+          or_first (same_ref c p.first) (has_ref p.first more) e
+          ∙ sym
+          (or_later (same_ref c p.second) (has_ref p.second more)
+          (f p.second (or_first (same_ref (other_end c p) p.second) _ there)));
+      rest = h;
+      ends = λ x k. f x (or_later (same_ref (other_end c p) x) _ k);
+    }
+turn c more p taken kept false true e g h f =
+    let there : same_ref (other_end c p) p.first ≡ true = rw e (itself p.first) in
+    record {
+      closed =
+          or_later (same_ref c p.first) (has_ref p.first more)
+          (f p.first (or_first (same_ref (other_end c p) p.first) _ there))
+          ∙ sym (or_first (same_ref c p.second) (has_ref p.second more) g);
+      rest = h;
+      ends = λ x k. f x (or_later (same_ref (other_end c p) x) _ k);
+    }
+turn c more p taken kept false false e g h f = record {
+  closed = rw (e, g) h.0;
+  rest = h.1;
+  ends = f;
+}
 
-reach_case : (n : ℕ) (ps : List Pair) (seen : List ColumnRef) → length ps ≤ suc n + count seen ps
-    → (length ps ≤ n + count (extend ps seen) ps → AreClosed ps (reach n ps (extend ps seen)))
-    → (AreClosed ps seen ⊎ HasHalf ps seen) → AreClosed ps (reach n ps (extend ps seen))
-reach_case n ps seen h ih (inl k) =
-    subst (AreClosed ps)
-    (sym (ap (reach n ps) (closed_extend ps seen k) ∙ closed_reach n ps seen k)) k
-reach_case n ps seen h ih (inr k) =
-    let more : suc (count seen ps) ≤ count (extend ps seen) ps =
-    pass_counts ps seen seen (λ x e. e) k in
-    ih (omega (arith, h, more))
+split_closed : (c : ColumnRef) (more : List ColumnRef) (ps : List Pair)
+    → AllByRecursion (IsClosed more) (filter (λ p. not (touches c p)) ps)
+    → ((x : ColumnRef) → has_ref x (map (other_end c) (filter (touches c) ps)) ≡ true
+    → has_ref x more ≡ true)
+    → AreClosed ps (c ∷ more)
+split_closed c more [] h f = tt
+split_closed c more (p ∷ ps) h f =
+    let t =
+    turn c more p (filter (touches c) ps) (filter (λ p. not (touches c p)) ps)
+    (same_ref c p.first) (same_ref c p.second) refl refl h f in
+    (t.closed, split_closed c more ps t.rest t.ends)
 
-reach_closes : (n : ℕ) (ps : List Pair) (seen : List ColumnRef) → length ps ≤ n + count seen ps
-    → AreClosed ps (reach n ps seen)
-reach_closes zero ps seen h = all_full ps seen (omega (arith, h))
-reach_closes (suc n) ps seen h =
-    reach_case n ps seen h (reach_closes n ps (extend ps seen)) (decide ps seen)
-
-reach_keeps : (x : ColumnRef) (n : ℕ) (ps : List Pair) (seen : List ColumnRef)
-    → has_ref x seen ≡ true → has_ref x (reach n ps seen) ≡ true
-reach_keeps x zero ps seen h = h
-reach_keeps x (suc n) ps seen h =
-    reach_keeps x n ps (extend ps seen) (extend_keeps x ps seen h)
+visits_close : (n : ℕ) (next : List ColumnRef) (ps : List Pair) → length next + length ps ≤ n
+    → AreClosed ps (visits n next ps)
+visits_close zero next [] l = tt
+visits_close zero next (p ∷ ps) l = absurd (omega (arith, l))
+visits_close (suc n) [] ps l = all_always (IsClosed []) ps (λ p. refl)
+visits_close (suc n) (c ∷ next) ps l =
+    let ends = map (other_end c) (filter (touches c) ps) in
+    let kept = filter (λ p. not (touches c p)) ps in
+    split_closed c (visits n (ends ++ next) kept) ps
+    (visits_close n (ends ++ next) kept (fewer c next ps n l))
+    (λ x h. visits_have x n (ends ++ next) kept (fewer c next ps n l)
+    (has_join x ends next ∙ or_first (has_ref x ends) (has_ref x next) h))
 
 -- each link of the conjuncts is one of the pairs
-class_same : (a b : Affinity) → affinity_class a ≡ affinity_class b
-    → class_number a ≡ class_number b
-class_same a b h = class_of a ∙ ap class_number h ∙ sym (class_of b)
-  where
-    class_of : (a : Affinity) → class_number a ≡ class_number (affinity_class a)
-    class_of Integer = refl
-    class_of Real = refl
-    class_of Numeric = refl
-    class_of TextAffinity = refl
-    class_of BlobAffinity = refl
-
 differ : (m n : ℕ) (b : Bool) → (m == n) ≡ b → m ≢ n → not b ≡ true
 differ m n true e h = absurd (h (eqb-true m n e))
 differ m n false e h = refl
@@ -286,7 +182,7 @@ pair_closed schema items c d collation seen apart own_c own_d one_class h =
     (both_true _ _ (differ c.item d.item (c.item == d.item) refl apart)
     (both_true _ _ (rw own_c (collation_itself collation))
     (both_true _ _ (rw own_d (collation_itself collation))
-    (eq-eqb _ _ (class_same _ _ one_class))))) h
+    (eq-eqb _ _ one_class)))) h
 
 link_closed : (schema : Schema) (items : List Item) (c d : ColumnRef) (e : BExpr)
     (seen : List ColumnRef)
@@ -303,7 +199,7 @@ link_closed schema items c d (Cmp IsEqual left right lc rc collation) seen l h =
     (pair_of schema items o (bare_column right) collation)) l.is_c h))
 link_closed schema items c d e seen l h = absurd l
 
-all_front : {A : Type 0} (P : A → Type 0) (xs ys : List A) → AllByRecursion P (xs ++ ys)
+pub all_front : {A : Type 0} (P : A → Type 0) (xs ys : List A) → AllByRecursion P (xs ++ ys)
     → AllByRecursion P xs × AllByRecursion P ys
 all_front P [] ys h = (tt, h)
 all_front P (x ∷ xs) ys h = let r = all_front P xs ys h.1 in ((h.0, r.0), r.1)
@@ -331,10 +227,6 @@ linked_reached schema items es _ _ seen (back c d l) h =
 linked_reached schema items es _ _ seen (chain c d e l m) h =
     linked_reached schema items es c d seen l h ∙ linked_reached schema items es d e seen m h
 
-has_ref_is : (c : ColumnRef) (ds : List ColumnRef) → has_ref c ds ≡ has same_ref ds c
-has_ref_is c [] = refl
-has_ref_is c (d ∷ ds) = ap (λ b. same_ref d c || b) (has_ref_is c ds)
-
 -- what is not c itself stays when c is left out
 others_case : (c d x : ColumnRef) (xs ys : List ColumnRef)
     → (has_ref d xs ≡ true → has_ref d ys ≡ true) → same_ref d c ≡ false → (b : Bool)
@@ -357,23 +249,62 @@ others_have c d (x ∷ xs) n h =
     others_case c d x xs (filter (λ y. not (same_ref y c)) xs) (others_have c d xs n) n
     (same_ref x d) refl h
 
+-- by item and column, only the same columns tie
+then_ties : (a b : Ordering) → is_eq (ordering_then a b) ≡ (is_eq a && is_eq b)
+then_ties Less b = refl
+then_ties Equal b = refl
+then_ties Greater b = refl
+
+number_is : (s t : Site) → site_number s ≡ site_number t → same_site s t ≡ true
+number_is AtRowid AtRowid h = refl
+number_is AtRowid (AtColumn n) h = absurd (omega (arith, h))
+number_is (AtColumn m) AtRowid h = absurd (omega (arith, h))
+number_is (AtColumn m) (AtColumn n) h = eq-eqb m n (omega (arith, h))
+
+site_ties : (s t : Site) → same_site s t ≡ eq_by_cmp nat_cmp (site_number s) (site_number t)
+site_ties s t =
+    alike (same_site s t) (site_number s == site_number t)
+    (λ e. eq-eqb (site_number s) (site_number t) (ap site_number (site_is s t e)))
+    (λ e. number_is s t (eqb-true (site_number s) (site_number t) e))
+    ∙ unsigned_ties (site_number s) (site_number t)
+
+ref_ties : (c d : ColumnRef) → same_ref c d ≡ eq_by_cmp ref_cmp c d
+ref_ties c d =
+    ap₂ (λ a b. a && b) (unsigned_ties c.item d.item) (site_ties c.site d.site)
+    ∙ sym (then_ties (nat_cmp c.item d.item) (nat_cmp (site_number c.site) (site_number d.site)))
+
+has_tied : (c : ColumnRef) (ds : List ColumnRef)
+    → has_ref c ds ≡ has (eq_by_cmp ref_cmp) ds c
+has_tied c [] = refl
+has_tied c (d ∷ ds) = ap₂ (λ a b. a || b) (ref_ties d c) (has_tied c ds)
+
+ref_total : IsTotalOrder ref_cmp
+ref_total =
+    then_total (on_total (λ (c : ColumnRef). c.item) nat_cmp_total)
+    (on_total (λ (c : ColumnRef). site_number c.site) nat_cmp_total)
+
 sort_has : (d : ColumnRef) (xs : List ColumnRef) → has_ref d xs ≡ true
-    → has_ref d (sort_by ref_cmp xs) ≡ true
+    → has_ref d (keep_first (eq_by_cmp ref_cmp) [] (sort_by ref_cmp xs)) ≡ true
 sort_has d xs h =
-    has_ref_is d (sort_by ref_cmp xs)
-    ∙ has_same same_ref (sort_by ref_cmp xs) xs d (SameTally-sort_by ref_cmp xs)
-    ∙ sym (has_ref_is d xs) ∙ h
+    let ys = sort_by ref_cmp xs in
+    let E = eq_by_cmp ref_cmp in
+    has_tied d (keep_first E [] ys) ∙ sym (or_none (has E (keep_first E [] ys) d))
+    ∙ has-keep_first (eq_by_cmp_equiv ref_total) ys [] d ∙ or_none (has E ys d)
+    ∙ has_same E ys xs d (SameTally-sort_by ref_cmp xs) ∙ sym (has_tied d xs) ∙ h
 
 pub lists_have_the_linked_columns : ListsHaveTheLinkedColumns
-lists_have_the_linked_columns = λ schema items es c. (
-  linked_are schema items es c,
-  λ d l other.
-      let ps = link_pairs schema items es in
-      let reached = reach (length ps) ps (c ∷ []) in
-      let here : has_ref c reached ≡ true =
-      reach_keeps c (length ps) ps (c ∷ []) (or_first (same_ref c c) false (itself c)) in
-      let there : has_ref d reached ≡ true =
-      sym (linked_reached schema items es c d reached l
-      (reach_closes (length ps) ps (c ∷ []) (omega arith))) ∙ here in
-      sort_has d (filter (λ x. not (same_ref x c)) reached) (others_have c d reached other there),
-)
+lists_have_the_linked_columns = λ schema items es c.
+    let ps = link_pairs schema items es in
+    let others = filter (λ x. not (same_ref x c)) (visited c ps) in (
+      RisesStrictly-keep_first ref_cmp (sort_by ref_cmp others) [] (Ascends-sort_by ref_total others),
+      linked_are schema items es c,
+      λ d l other.
+          let here : has_ref c (visited c ps) ≡ true =
+          visits_have c (suc (length ps)) (c ∷ []) ps (omega arith)
+          (or_first (same_ref c c) false (itself c)) in
+          let there : has_ref d (visited c ps) ≡ true =
+          sym
+          (linked_reached schema items es c d (visited c ps) l
+          (visits_close (suc (length ps)) (c ∷ []) ps (omega arith))) ∙ here in
+          sort_has d others (others_have c d (visited c ps) other there),
+    )

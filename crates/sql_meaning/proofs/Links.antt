@@ -4,16 +4,16 @@ use Rattle.std.specs.declared.cmp.Ordering.{Ordering}
 use Rattle.std.specs.declared.cmp.Ordering.TheVariants.{Less, Equal as Ties, Greater}
 use Rattle.std.specs.Ordering.{is_eq}
 use Rattle.std.proofs.Common.{◌≡◌, ℕ, suc, zero, List, [], ◌∷◌, Some, subst, Bool, true, false}
-use Rattle.std.proofs.Common.{cond, ◌||◌, None, refl, ◌∙◌, ap, not, ◌&&◌, sym, ap₂}
+use Rattle.std.proofs.Common.{◌==◌, cond, ◌||◌, None, refl, ◌∙◌, ap, not, ◌&&◌, sym, ap₂}
 use Rattle.std.proofs.lemmas.Cmp.{tied_back}
 use Rattle.sql_meaning.specs.Evaluation.{is_true, compares, ev, holds}
 use Rattle.sql_meaning.specs.Values.{Value, Collation, value_cmp, is_null, Affinity, Integer, Real}
 use Rattle.sql_meaning.specs.Values.{Numeric, TextAffinity, BlobAffinity}
 use Rattle.sql_meaning.specs.Conversions.{is_numeric, is_text, side_conversion, converted_by}
-use Rattle.sql_meaning.specs.Expressions.{IsEqual, BExpr, Lit, Param, Column, Rowid, Plus, Collate}
-use Rattle.sql_meaning.specs.Expressions.{Cmp, OneOf, IsNull, Not, All, Any, ColumnRef}
-use Rattle.sql_meaning.specs.Expressions.{plain_column, bare_column, IsUnequal, IsBelow, IsAtMost}
-use Rattle.sql_meaning.specs.Expressions.{IsAbove, IsAtLeast, site_expr}
+use Rattle.sql_meaning.specs.Expressions.{IsEqual, BExpr, Column, Rowid, Collate}
+use Rattle.sql_meaning.specs.Expressions.{Cmp, ColumnRef}
+use Rattle.sql_meaning.specs.Expressions.{plain_column, bare_column}
+use Rattle.sql_meaning.specs.Expressions.{site_expr}
 use Rattle.sql_meaning.specs.Schemas.{Schema}
 use Rattle.sql_meaning.specs.Items.{Item, own_column, expr_affinity, FitsExpr}
 use Rattle.sql_meaning.specs.Links.{affinity_class, Links, Linked, link, back, chain, Derives}
@@ -66,35 +66,16 @@ plain_affinity schema items (Column i n) c h =
     ap (λ r. Some (own_column schema items r).affinity) (some_is _ c h)
 plain_affinity schema items (Rowid i) c h =
     ap (λ r. Some (own_column schema items r).affinity) (some_is _ c h)
-plain_affinity schema items (Lit v) c h = absurd (cc)
-plain_affinity schema items (Param n) c h = absurd (cc)
-plain_affinity schema items (Plus e) c h = absurd (cc)
-plain_affinity schema items (Collate e collation) c h = absurd (cc)
-plain_affinity schema items (Cmp op l r lc rc collation) c h = absurd (cc)
-plain_affinity schema items (OneOf n l es ec collation) c h = absurd (cc)
-plain_affinity schema items (IsNull n e) c h = absurd (cc)
-plain_affinity schema items (Not e) c h = absurd (cc)
-plain_affinity schema items (All es) c h = absurd (cc)
-plain_affinity schema items (Any es) c h = absurd (cc)
+plain_affinity schema items e c h = absurd (cc)
 
 bare_affinity : (schema : Schema) (items : List Item) (e : BExpr) (c : ColumnRef)
     → bare_column e ≡ Some c
     → expr_affinity schema items e ≡ Some (own_column schema items c).affinity
 bare_affinity schema items (Collate e collation) c h = plain_affinity schema items e c h
-bare_affinity schema items (Column i n) c h = plain_affinity schema items (Column i n) c h
-bare_affinity schema items (Rowid i) c h = plain_affinity schema items (Rowid i) c h
-bare_affinity schema items (Lit v) c h = absurd (cc)
-bare_affinity schema items (Param n) c h = absurd (cc)
-bare_affinity schema items (Plus e) c h = absurd (cc)
-bare_affinity schema items (Cmp op l r lc rc collation) c h = absurd (cc)
-bare_affinity schema items (OneOf n l es ec collation) c h = absurd (cc)
-bare_affinity schema items (IsNull n e) c h = absurd (cc)
-bare_affinity schema items (Not e) c h = absurd (cc)
-bare_affinity schema items (All es) c h = absurd (cc)
-bare_affinity schema items (Any es) c h = absurd (cc)
+bare_affinity schema items e c h = plain_affinity schema items e c h
 
 abbrev numeric_class : Affinity → Bool
-numeric_class a = is_numeric (Some (affinity_class a))
+numeric_class a = affinity_class a == 0
 
 class_numeric : (a : Affinity) → is_numeric (Some a) ≡ numeric_class a
 class_numeric Integer = refl
@@ -117,7 +98,7 @@ pub class_side : (a b : Affinity) → affinity_class a ≡ affinity_class b
     → side_conversion (Some a) (Some b) ≡ None
 class_side a b e =
     no_side (is_numeric (Some a)) (is_numeric (Some b)) (is_text (Some b))
-    (class_numeric a ∙ ap (λ c. is_numeric (Some c)) e ∙ sym (class_numeric b))
+    (class_numeric a ∙ ap (λ c. c == 0) e ∙ sym (class_numeric b))
 
 link_is : (schema : Schema) (items : List Item) (env : Assignment) (params : List Value)
     (c d : ColumnRef) (e : BExpr)
@@ -139,44 +120,14 @@ link_is schema items env params c d
     sym (ap is_true (truth_again _)) ∙ h in
     rw (l.own_c, ← bare_is env params left c l.is_c, ← bare_is env params right d l.is_d)
     (rw (no_left, no_right) at plain)
-link_is schema items env params c d (Cmp IsUnequal left right lc rc collation) f l h = absurd l
-link_is schema items env params c d (Cmp IsBelow left right lc rc collation) f l h = absurd l
-link_is schema items env params c d (Cmp IsAtMost left right lc rc collation) f l h = absurd l
-link_is schema items env params c d (Cmp IsAbove left right lc rc collation) f l h = absurd l
-link_is schema items env params c d (Cmp IsAtLeast left right lc rc collation) f l h = absurd l
-link_is schema items env params c d (Lit v) f l h = absurd l
-link_is schema items env params c d (Param n) f l h = absurd l
-link_is schema items env params c d (Column i n) f l h = absurd l
-link_is schema items env params c d (Rowid i) f l h = absurd l
-link_is schema items env params c d (Plus e) f l h = absurd l
-link_is schema items env params c d (Collate e collation) f l h = absurd l
-link_is schema items env params c d (OneOf n e es ec collation) f l h = absurd l
-link_is schema items env params c d (IsNull n e) f l h = absurd l
-link_is schema items env params c d (Not e) f l h = absurd l
-link_is schema items env params c d (All es) f l h = absurd l
-link_is schema items env params c d (Any es) f l h = absurd l
+link_is schema items env params c d e f l h = absurd l
 
 link_collation : (schema : Schema) (items : List Item) (c d : ColumnRef) (e : BExpr)
     → Links schema items c d e
     → (own_column schema items c).collation ≡ (own_column schema items d).collation
 link_collation schema items c d (Cmp IsEqual left right left_conversion right_conversion collation)
     l = l.own_c ∙ sym l.own_d
-link_collation schema items c d (Cmp IsUnequal left right lc rc collation) l = absurd l
-link_collation schema items c d (Cmp IsBelow left right lc rc collation) l = absurd l
-link_collation schema items c d (Cmp IsAtMost left right lc rc collation) l = absurd l
-link_collation schema items c d (Cmp IsAbove left right lc rc collation) l = absurd l
-link_collation schema items c d (Cmp IsAtLeast left right lc rc collation) l = absurd l
-link_collation schema items c d (Lit v) l = absurd l
-link_collation schema items c d (Param n) l = absurd l
-link_collation schema items c d (Column i n) l = absurd l
-link_collation schema items c d (Rowid i) l = absurd l
-link_collation schema items c d (Plus e) l = absurd l
-link_collation schema items c d (Collate e collation) l = absurd l
-link_collation schema items c d (OneOf n e es ec collation) l = absurd l
-link_collation schema items c d (IsNull n e) l = absurd l
-link_collation schema items c d (Not e) l = absurd l
-link_collation schema items c d (All es) l = absurd l
-link_collation schema items c d (Any es) l = absurd l
+link_collation schema items c d e l = absurd l
 
 pub linked_collation : (schema : Schema) (items : List Item) (es : List BExpr) (c d : ColumnRef)
     → Linked schema items es c d

@@ -1,17 +1,18 @@
 -- The listed terms of a column are terms of its item.
 use Rattle.std.specs.List.{AllByRecursion, filter}
 use Rattle.std.proofs.Common.{◌≡◌, true, ◌==◌, refl, ℕ, List, Bool, false, cond, ◌&&◌, [], ◌∷◌}
-use Rattle.std.proofs.Common.{Option, Some, slice_get, None, inl, inr, ap, ◌∙◌, add-zero, map}
+use Rattle.std.proofs.Common.{Option, Some, slice_get, None, inl, inr, ap, ◌∙◌, add-zero, map, suc}
+use Rattle.std.proofs.Common.{◌++◌}
 use Rattle.std.proofs.lemmas.Bool.{eq-eqb}
-use Rattle.list_laws.proofs.Lists.{all_flat_map, all_map, all_append, all_from_at}
+use Rattle.list_laws.proofs.Lists.{all_flat_map, all_map, all_append, all_from_at, all_filter}
 use Rattle.list_laws.proofs.Bools.{and_left, and_right}
 use Rattle.sql_meaning.specs.Values.{Collation}
 use Rattle.sql_meaning.specs.Links.{Linked, Derives, by_key, by_column}
 use Rattle.sql_meaning.specs.TermLists.{linked_to, derived_term, key_term, derived_terms, of_kind}
 use Rattle.sql_meaning.specs.TermLists.{is_equal, is_within, is_low, is_high, own_terms}
-use Rattle.sql_meaning.specs.TermLists.{column_terms, all_sites, item_terms}
-use Rattle.sql_meaning.specs.Expressions.{ColumnRef, BExpr, Cmp, Lit, Param, Column, Rowid, Plus}
-use Rattle.sql_meaning.specs.Expressions.{Collate, OneOf, IsNull, Not, All, Any, names, ref_expr}
+use Rattle.sql_meaning.specs.TermLists.{own_likes, column_terms, all_sites, item_terms, has_term}
+use Rattle.sql_meaning.specs.Expressions.{ColumnRef, BExpr, Cmp}
+use Rattle.sql_meaning.specs.Expressions.{names, ref_expr}
 use Rattle.sql_meaning.specs.Orders.{same_site}
 use Rattle.sql_meaning.specs.Schemas.{Schema}
 use Rattle.sql_meaning.specs.Items.{Item, own_column}
@@ -20,11 +21,14 @@ use Rattle.sql_meaning.specs.Terms.{Term, part_of, TermKind, Serves, ComparisonS
 use Rattle.sql_meaning.specs.Terms.{Within, IsNothing, Low, High}
 use Rattle.sql_meaning.specs.Choices.{part_or, edge_or, Offer, seek_offer, consumed_of, rowid_offer}
 use Rattle.sql_meaning.specs.Statements.{is_empty, Bound, exprs_of, has_number, FitsStatement}
-use Rattle.sql_meaning.specs.Statements.{item_alias}
+use Rattle.sql_meaning.specs.Statements.{item_alias, Conjunct, table_of}
+use Rattle.sql_meaning.specs.Fitting.{IsIndexOf}
+use Rattle.sql_meaning.proofs.Fitting.{seek_fits, rowid_fits}
 use Rattle.sql_meaning.specs.Paths.{KeyExpr, Edge}
 use Rattle.sql_meaning.specs.Serving.{key_under, comparison_served}
-use Rattle.sql_meaning.specs.UsedTerms.{IsDirect, IsTerm, AllOf}
-use Rattle.sql_meaning.specs.Conjuncts.{may_derive}
+use Rattle.sql_meaning.specs.UsedTerms.{IsDirect, IsLikeTerm, IsTerm, AllOf}
+use Rattle.sql_meaning.specs.LikeTerms.{like_terms}
+use Rattle.sql_meaning.specs.Conjuncts.{may_derive, may_serve}
 use Rattle.sql_meaning.specs.Offers.{IsOffer}
 use Rattle.sql_meaning.specs.OrderState.{columns_at}
 use Rattle.sql_meaning.proofs.OneBlock.{empty_is}
@@ -33,6 +37,8 @@ use Rattle.sql_meaning.proofs.Serving.{key_is, equality_serves, direct_are}
 use Rattle.sql_meaning.proofs.Choices.{AreColumnTerms}
 use Rattle.sql_meaning.proofs.OfferedPaths.{seek_plain, plain_offer, rowid_plain}
 use Rattle.sql_meaning.proofs.TermLists.{linked_are}
+use Rattle.sql_meaning.proofs.Links.{all_at}
+use Rattle.sql_meaning.proofs.LikeTerms.{like_unnumbered}
 
 -- a derived term, as the lists of a column want it
 abbrev pub IsDerived : Schema → List Item → List BExpr → ℕ → ColumnRef → Term → Type 0
@@ -44,17 +50,7 @@ comparison_is_serves : (item : ℕ) (site : Site) (collation : Collation) (kind 
     (e : BExpr)
     → ComparisonServes item site collation kind e → Serves item site collation kind e
 comparison_is_serves item site collation kind (Cmp op left right lc rc c) h = h
-comparison_is_serves item site collation kind (Lit v) h = absurd h
-comparison_is_serves item site collation kind (Param n) h = absurd h
-comparison_is_serves item site collation kind (Column i n) h = absurd h
-comparison_is_serves item site collation kind (Rowid i) h = absurd h
-comparison_is_serves item site collation kind (Plus e) h = absurd h
-comparison_is_serves item site collation kind (Collate e c) h = absurd h
-comparison_is_serves item site collation kind (OneOf n l es ec c) h = absurd h
-comparison_is_serves item site collation kind (IsNull n e) h = absurd h
-comparison_is_serves item site collation kind (Not e) h = absurd h
-comparison_is_serves item site collation kind (All es) h = absurd h
-comparison_is_serves item site collation kind (Any es) h = absurd h
+comparison_is_serves item site collation kind e h = absurd h
 
 key_case : (schema : Schema) (items : List Item) (es : List BExpr) (item : ℕ) (c d : ColumnRef)
     (number : ℕ) (e : BExpr) (key : KeyExpr)
@@ -133,38 +129,62 @@ kinds P Q test site f (t ∷ ts) h =
 pub equal_part : (kind : TermKind) → is_equal kind ≡ true → part_of kind ≡ Some (part_or kind)
 equal_part (Equals key) h = refl
 equal_part IsNothing h = refl
-equal_part (Within keys) h = absurd (cc)
-equal_part (Low key i) h = absurd (cc)
-equal_part (High key i) h = absurd (cc)
+equal_part kind h = absurd (cc)
 
 pub within_part : (kind : TermKind) → is_within kind ≡ true → part_of kind ≡ Some (part_or kind)
 within_part (Within keys) h = refl
-within_part (Equals key) h = absurd (cc)
-within_part IsNothing h = absurd (cc)
-within_part (Low key i) h = absurd (cc)
-within_part (High key i) h = absurd (cc)
+within_part kind h = absurd (cc)
 
 pub low_edge : (kind : TermKind) → is_low kind ≡ true → (e : Edge) × (edge_or kind ≡ Some e)
     × (kind ≡ Low e.key e.inclusive)
 low_edge (Low key i) h = (record { key = key; inclusive = i }, refl, refl)
-low_edge (Equals key) h = absurd (cc)
-low_edge (Within keys) h = absurd (cc)
-low_edge IsNothing h = absurd (cc)
-low_edge (High key i) h = absurd (cc)
+low_edge kind h = absurd (cc)
 
 pub high_edge : (kind : TermKind) → is_high kind ≡ true → (e : Edge) × (edge_or kind ≡ Some e)
     × (kind ≡ High e.key e.inclusive)
 high_edge (High key i) h = (record { key = key; inclusive = i }, refl, refl)
-high_edge (Equals key) h = absurd (cc)
-high_edge (Within keys) h = absurd (cc)
-high_edge IsNothing h = absurd (cc)
-high_edge (Low key i) h = absurd (cc)
+high_edge kind h = absurd (cc)
 
 own_are : (schema : Schema) (bound : Bound) (item : ℕ)
     → AllByRecursion (IsDirect bound item) (own_terms schema bound item)
 own_are schema bound item =
     direct_are _ bound item 0 bound.conjuncts
     (λ k c e. ap (slice_get bound.conjuncts) (add-zero k) ∙ e)
+
+allowed_case : (P : Conjunct → Type 0) (b : Bool) (c : Conjunct) (cs : List Conjunct)
+    → (b ≡ true → P c) → AllByRecursion P cs → AllByRecursion P (cond b (c ∷ cs) cs)
+allowed_case P true c cs h k = (h refl, k)
+allowed_case P false c cs h k = k
+
+-- what holds of each allowed conjunct at its number
+allowed_are : (P : Conjunct → Type 0) (allowed : Conjunct → Bool) (cs : List Conjunct)
+    → ((number : ℕ) (c : Conjunct) → slice_get cs number ≡ Some c → allowed c ≡ true → P c)
+    → AllByRecursion P (filter allowed cs)
+allowed_are P allowed [] f = tt
+allowed_are P allowed (c ∷ cs) f =
+    allowed_case P (allowed c) c (filter allowed cs) (f 0 c refl)
+    (allowed_are P allowed cs (λ number d is may. f (suc number) d is may))
+
+likes_are : (schema : Schema) (bound : Bound) (item : ℕ)
+    → AllByRecursion (λ t. (t.conjunct ≡ None) × IsLikeTerm schema bound item t)
+    (own_likes schema bound item)
+likes_are schema bound item =
+    all_flat_map _ (λ c. like_terms schema bound.items item c.expr)
+    (filter (may_serve bound item) bound.conjuncts)
+    (allowed_are _ (may_serve bound item) bound.conjuncts
+    (λ number c is may. all_from_at _ (like_terms schema bound.items item c.expr)
+    (λ at t listed. (
+      all_at (λ u. u.conjunct ≡ None) (like_terms schema bound.items item c.expr) at t
+          (like_unnumbered schema bound.items item c.expr) listed,
+      record {
+        number = number;
+        conjunct = c;
+        is = is;
+        allowed = may;
+        at = at;
+        listed = listed;
+      },
+    ))))
 
 -- the listed terms of a column are terms of the item
 pub column_terms_are : (schema : Schema) (bound : Bound) (item : ℕ) (site : Site)
@@ -175,19 +195,27 @@ column_terms_are schema bound item site = record {
       (kinds (IsDirect bound item) _ is_equal site (λ t d at k. (at, equal_part t.kind k, inl d))
       (own_terms schema bound item) (own_are schema bound item))
       (all_append _ _ _
-      (all_map _ _ _ (λ t d. (d.0, d.1, inr (d.2, d.3)))
+      (all_map _ _ _ (λ t d. (d.0, d.1, inr (d.2, inl d.3)))
       (derived_are schema bound.items
       (exprs_of (filter (may_derive bound item) bound.conjuncts)) item
       (record { item = item; site = site }) refl))
       (kinds (IsDirect bound item) _ is_within site (λ t d at k. (at, within_part t.kind k, inl d))
       (own_terms schema bound item) (own_are schema bound item)));
-  lows =
-      kinds (IsDirect bound item) _ is_low site (λ t d at k. (at, low_edge t.kind k, inl d))
-      (own_terms schema bound item) (own_are schema bound item);
-  highs =
-      kinds (IsDirect bound item) _ is_high site (λ t d at k. (at, high_edge t.kind k, inl d))
-      (own_terms schema bound item) (own_are schema bound item);
+  lows = bounds is_low (λ t k. low_edge t.kind k);
+  highs = bounds is_high (λ t k. high_edge t.kind k);
 }
+  where
+    bounds : {Q : Term → Type 0} (test : TermKind → Bool)
+        → ((t : Term) → test t.kind ≡ true → Q t)
+        → AllByRecursion (λ t. (t.column ≡ site) × Q t × IsTerm schema bound item t)
+        (of_kind test site (own_terms schema bound item)
+        ++ of_kind test site (own_likes schema bound item))
+    bounds test f =
+        all_append _ _ _
+        (kinds (IsDirect bound item) _ test site (λ t d at k. (at, f t k, inl d))
+        (own_terms schema bound item) (own_are schema bound item))
+        (kinds _ _ test site (λ t d at k. (at, f t k, inr (d.0, inr d.1)))
+        (own_likes schema bound item) (likes_are schema bound item))
 
 all_sites_are : (schema : Schema) (bound : Bound) (item : ℕ) (sites : List Site)
     → AllByRecursion (AreColumnTerms (IsTerm schema bound item))
@@ -198,19 +226,25 @@ all_sites_are schema bound item (site ∷ sites) =
 
 pub item_terms_are : (schema : Schema) (bound : Bound) (item : ℕ)
     → AllByRecursion (AreColumnTerms (IsTerm schema bound item)) (item_terms schema bound item)
-item_terms_are schema bound item = all_sites_are schema bound item (all_sites schema bound item)
+item_terms_are schema bound item =
+    all_filter (AreColumnTerms (IsTerm schema bound item)) has_term
+    (map (column_terms schema bound item) (all_sites schema bound item))
+    (all_sites_are schema bound item (all_sites schema bound item))
 
 -- so the seeks that are chosen of the lists are offers
 pub seek_of_terms : (schema : Schema) (bound : Bound) (placed : List ℕ) (item index : ℕ)
     (turned : Bool) (o : Offer)
     → FitsStatement schema bound → has_number item placed ≡ false
+    → IsIndexOf schema (table_of (slice_get bound.items item)) index
     → seek_offer placed (item_alias schema bound item) (item_terms schema bound item) index
     (columns_at (slice_get schema.indexes index)) ≡ Some o
     → IsOffer schema bound placed
     (record { item = item; path = o.path; reverse = turned; consumed = consumed_of o.used })
     (AllOf o.used)
-seek_of_terms schema bound placed item index turned o fits un h =
+seek_of_terms schema bound placed item index turned o fits un i h =
     plain_offer schema bound placed item o turned fits un
+    (seek_fits schema (table_of (slice_get bound.items item)) placed (item_alias schema bound item)
+    (item_terms schema bound item) index o i h)
     (seek_plain (IsTerm schema bound item) schema (item_alias schema bound item) placed
     (item_terms schema bound item) index o (item_terms_are schema bound item) h)
 
@@ -223,5 +257,7 @@ pub rowid_of_terms : (schema : Schema) (bound : Bound) (placed : List ℕ) (item
     (AllOf o.used)
 rowid_of_terms schema bound placed item turned o fits un h =
     plain_offer schema bound placed item o turned fits un
+    (rowid_fits schema (table_of (slice_get bound.items item)) placed
+    (item_terms schema bound item) o h)
     (rowid_plain (IsTerm schema bound item) schema (item_alias schema bound item) placed
     (item_terms schema bound item) o (item_terms_are schema bound item) h)

@@ -13,26 +13,28 @@ use Rattle.sql_meaning.specs.Schemas.{Schema, Database}
 use Rattle.sql_meaning.specs.Statements.{Bound, is_left, owned_by, is_common, chosen_hold}
 use Rattle.sql_meaning.specs.Statements.{has_number, no_owner, Conjunct, all_in, is_empty}
 use Rattle.sql_meaning.specs.Plans.{Loop, steps_of, consumed_by, Plan}
-use Rattle.sql_meaning.specs.UsedTerms.{Used, used_holds, Consumes, IsTerm, UsedComes, AllOf, AnyOf}
+use Rattle.sql_meaning.specs.UsedTerms.{Used, Consumes, IsTerm, UsedComes, AllOf, AnyOf}
 use Rattle.sql_meaning.specs.Offers.{IsOffer, AreOffers, loop_items, FitsOffers}
 use Rattle.sql_meaning.specs.Conjuncts.{may_serve, level_test, common_first, first_by}
 use Rattle.sql_meaning.specs.Evaluation.{holds}
 use Rattle.sql_meaning.specs.Expressions.{names}
 use Rattle.sql_meaning.proofs.TermsHold.{used_from, consumed_holds}
+use Rattle.sql_meaning.proofs.LikeTerms.{term_passes, direct_passes}
+use Rattle.sql_meaning.proofs.PassingTerms.{used_passes}
 use Rattle.sql_meaning.proofs.Plans.{chosen_weaken, test_from, has_all, test_at, chosen_from}
-use Rattle.sql_meaning.proofs.KeptLoops.{uses, same_holds}
+use Rattle.sql_meaning.proofs.KeptLoops.{asked_by, same_holds}
 use Rattle.sql_meaning.proofs.Terms.{some_is}
 use Rattle.sql_meaning.proofs.Links.{all_at}
 
 -- sound: where all the common conjuncts hold, the used terms and the tests of all loops do
 sound_used : (schema : Schema) (bound : Bound) (params : List Value) (placed : List ℕ) (l : Loop)
-    (used : Loop → Used) (a : Assignment)
-    → IsOffer schema bound placed l (used l) → chosen_hold is_common params bound.conjuncts a ≡ true
+    (used : Used) (a : Assignment)
+    → IsOffer schema bound placed l used → chosen_hold is_common params bound.conjuncts a ≡ true
     → (b : Bool) → is_left bound l.item ≡ b
-    → cond b true (used_holds a params l.item (used l)) ≡ true
+    → cond b true (used_passes schema bound params l.item used a) ≡ true
 sound_used schema bound params placed l used a o h true e = refl
 sound_used schema bound params placed l used a o h false e =
-    used_from schema bound params l.item a (used l) o.fits o.comes
+    used_from schema bound params l.item a used o.fits o.comes
     (chosen_weaken _ _
     (λ c t. sym (ap (λ b. cond b (owned_by l.item c.owner) (is_common c)) e) ∙ t) params
     bound.conjuncts a h)
@@ -40,16 +42,17 @@ sound_used schema bound params placed l used a o h false e =
     (λ c t. and_left (is_common c) (not (is_left bound l.item)) t) params bound.conjuncts a h)
 
 pub sound : (schema : Schema) (database : Database) (bound : Bound) (params : List Value)
-    (consumed placed : List ℕ) (loops : List Loop) (used : Loop → Used) (a : Assignment)
+    (consumed placed : List ℕ) (loops : List Loop) (used : List Used) (a : Assignment)
     → AreOffers schema bound placed loops used
     → chosen_hold is_common params bound.conjuncts a ≡ true
-    → kept (steps_of schema database bound params consumed (uses bound params used) placed loops) a
-    ≡ true
+    → kept (asked_by schema bound params loops used)
+    (steps_of schema database bound params consumed placed loops) a ≡ true
 sound schema database bound params consumed placed [] used a o h = refl
-sound schema database bound params consumed placed (l ∷ ls) used a o h =
-    both_true _ _ (sound_used schema bound params placed l used a o.0 h (is_left bound l.item) refl)
+sound schema database bound params consumed placed (l ∷ ls) [] a o h = absurd o
+sound schema database bound params consumed placed (l ∷ ls) (u ∷ us) a o h =
+    both_true _ _ (sound_used schema bound params placed l u a o.0 h (is_left bound l.item) refl)
     (both_true _ _ (test_from is_common params consumed placed l.item 0 bound.conjuncts a h)
-    (sound schema database bound params consumed (l.item ∷ placed) ls used a o.1 h))
+    (sound schema database bound params consumed (l.item ∷ placed) ls us a o.1 h))
 
 -- settled by a path that consumes it
 pub has_append : (n : ℕ) (ms ns : List ℕ)
@@ -84,43 +87,48 @@ consumed_served schema bound item (AllOf ts) number c comes k is =
 consumed_served schema bound item (AnyOf tss) number c comes k is = absurd k
 
 used_case : (schema : Schema) (bound : Bound) (params : List Value) (placed : List ℕ) (l : Loop)
-    (used : Loop → Used) (a : Assignment) (number : ℕ) (c : Conjunct)
-    → IsOffer schema bound placed l (used l) → slice_get bound.conjuncts number ≡ Some c
+    (used : Used) (a : Assignment) (number : ℕ) (c : Conjunct)
+    → IsOffer schema bound placed l used → slice_get bound.conjuncts number ≡ Some c
     → is_common c ≡ true → has_number number l.consumed ≡ true → (b : Bool)
-    → is_left bound l.item ≡ b → cond b true (used_holds a params l.item (used l)) ≡ true
+    → is_left bound l.item ≡ b → cond b true (used_passes schema bound params l.item used a) ≡ true
     → holds a params c.expr ≡ true
 used_case schema bound params placed l used a number c o is common h true e u =
     absurd
     (let owned : owned_by l.item c.owner ≡ true =
     sym (ap (λ b. cond b (owned_by l.item c.owner) (is_common c)) e)
-    ∙ consumed_served schema bound l.item (used l) number c o.comes
-    (has_all (Consumes (used l)) l.consumed number o.consumes h) is in
+    ∙ consumed_served schema bound l.item used number c o.comes
+    (has_all (Consumes used) l.consumed number o.consumes h) is in
     let not_owned : owned_by l.item c.owner ≡ false =
     common_not_owned l.item c.owner common in cc)
 used_case schema bound params placed l used a number c o is common h false e u =
     let r =
-    consumed_holds schema bound params l.item a (used l) number o.comes
-    (has_all (Consumes (used l)) l.consumed number o.consumes h) u in
+    consumed_holds schema bound params l.item a (term_passes schema bound.items params l.item a)
+    (direct_passes schema bound.items params l.item a) used number o.comes
+    (has_all (Consumes used) l.consumed number o.consumes h) u in
     same_holds a params bound number c r.0 is r.1 r.3
 
 pub settled_used : (schema : Schema) (database : Database) (bound : Bound)
-    (params : List Value) (consumed placed : List ℕ) (loops : List Loop) (used : Loop → Used)
+    (params : List Value) (consumed placed : List ℕ) (loops : List Loop) (used : List Used)
     (a : Assignment) (number : ℕ) (c : Conjunct)
     → AreOffers schema bound placed loops used
-    → kept (steps_of schema database bound params consumed (uses bound params used) placed loops) a
-    ≡ true
+    → kept (asked_by schema bound params loops used)
+    (steps_of schema database bound params consumed placed loops) a ≡ true
     → slice_get bound.conjuncts number ≡ Some c → is_common c ≡ true
     → has_number number (consumed_by loops) ≡ true → holds a params c.expr ≡ true
 settled_used schema database bound params consumed placed [] used a number c o k is common h =
     absurd (cc)
-settled_used schema database bound params consumed placed (l ∷ ls) used a number c o k is common h =
+settled_used schema database bound params consumed placed (l ∷ ls) [] a number c o k is common h =
+    absurd o
+settled_used schema database bound params consumed placed (l ∷ ls) (u ∷ us) a number c o k is common
+    h =
+    let here = cond (is_left bound l.item) true (used_passes schema bound params l.item u a) in
     or_cases (has_number number l.consumed) (has_number number (consumed_by ls))
-    (λ t. used_case schema bound params placed l used a number c o.0 is common t
-    (is_left bound l.item) refl (and_left (uses bound params used l a) _ k))
+    (λ t. used_case schema bound params placed l u a number c o.0 is common t
+    (is_left bound l.item) refl (and_left here _ k))
     (λ t. settled_used schema database bound params consumed
-    (l.item ∷ placed) ls used a number c o.1
+    (l.item ∷ placed) ls us a number c o.1
     (and_right (level_test is_common params consumed placed l.item 0 bound.conjuncts a) _
-    (and_right (uses bound params used l a) _ k)) is common t)
+    (and_right here _ k)) is common t)
     (sym (has_append number l.consumed (consumed_by ls)) ∙ h)
 
 -- settled by a test
@@ -186,18 +194,24 @@ named_case ns item placed e h false f =
     absurd (let yes : all_in ns placed ≡ true = unnamed ns item placed f e in cc)
 
 pub settled_test : (schema : Schema) (database : Database) (bound : Bound)
-    (params : List Value) (consumed placed : List ℕ) (loops : List Loop)
-    (u : Loop → Assignment → Bool) (a : Assignment) (number : ℕ) (c : Conjunct)
-    → kept (steps_of schema database bound params consumed u placed loops) a ≡ true
+    (params : List Value) (consumed placed : List ℕ) (loops : List Loop) (used : List Used)
+    (a : Assignment) (number : ℕ) (c : Conjunct)
+    → AreOffers schema bound placed loops used
+    → kept (asked_by schema bound params loops used)
+    (steps_of schema database bound params consumed placed loops) a ≡ true
     → slice_get bound.conjuncts number ≡ Some c → is_common c ≡ true
     → has_number number consumed ≡ false → Covered (names c.expr) placed (loop_items loops)
     → all_in (names c.expr) placed ≡ false → holds a params c.expr ≡ true
-settled_test schema database bound params consumed placed [] u a number c k is common n cover h =
+settled_test schema database bound params consumed placed [] used a number c o k is common n cover h
+    =
     absurd
     (let yes : all_in (names c.expr) placed ≡ true = covered_all (names c.expr) placed cover in cc)
-settled_test schema database bound params consumed placed (l ∷ ls) u a number c k is common n cover
-    h =
-    let rest = and_right (u l a) _ k in
+settled_test schema database bound params consumed placed (l ∷ ls) [] a number c o k is common n
+    cover h = absurd o
+settled_test schema database bound params consumed placed (l ∷ ls) (u ∷ us) a number c o k is common
+    n cover h =
+    let rest =
+    and_right (cond (is_left bound l.item) true (used_passes schema bound params l.item u a)) _ k in
     test_case (all_in (names c.expr) (l.item ∷ placed)) refl
     (λ e. test_at is_common params consumed placed l.item 0 bound.conjuncts a number c
     (and_left (level_test is_common params consumed placed l.item 0 bound.conjuncts a) _ rest) is
@@ -207,7 +221,7 @@ settled_test schema database bound params consumed placed (l ∷ ls) u a number 
     (both_true _ _
     (named_case (names c.expr) l.item placed e h (has_number l.item (names c.expr)) refl) e)))
     (ap (λ m. has_number m consumed) (zero-add number) ∙ n))
-    (λ e. settled_test schema database bound params consumed (l.item ∷ placed) ls u a number c
+    (λ e. settled_test schema database bound params consumed (l.item ∷ placed) ls us a number c o.1
     (and_right (level_test is_common params consumed placed l.item 0 bound.conjuncts a) _ rest) is
     common n (covered_next (names c.expr) l.item placed (loop_items ls) cover) e)
   where
@@ -232,12 +246,11 @@ covered_start (n ∷ ns) rest h =
 
 -- each common conjunct holds where the used terms and the tests of all loops do
 settles_one : (schema : Schema) (database : Database) (bound : Bound) (params : List Value)
-    (loops : List Loop) (used : Loop → Used) (a : Assignment) (number : ℕ) (c : Conjunct)
+    (loops : List Loop) (used : List Used) (a : Assignment) (number : ℕ) (c : Conjunct)
     → loops ≢ [] → AreOffers schema bound [] loops used
     → all_in (names c.expr) (loop_items loops) ≡ true
-    → kept
-    (steps_of schema database bound params (consumed_by loops) (uses bound params used) [] loops) a
-    ≡ true
+    → kept (asked_by schema bound params loops used)
+    (steps_of schema database bound params (consumed_by loops) [] loops) a ≡ true
     → slice_get bound.conjuncts number ≡ Some c → is_common c ≡ true → (b : Bool)
     → has_number number (consumed_by loops) ≡ b → (e : Bool) → is_empty (names c.expr) ≡ e
     → holds a params c.expr ≡ true
@@ -246,24 +259,26 @@ settles_one schema database bound params loops used a number c some o named k is
     (consumed_by loops) [] loops used a number c o k is common f
 settles_one schema database bound params loops used a number c some o named k is common false f
     false g =
-    settled_test schema database bound params (consumed_by loops) [] loops
-    (uses bound params used) a number c k is common f
-    (covered_start (names c.expr) (loop_items loops) named) (some_named (names c.expr) g)
+    settled_test schema database bound params (consumed_by loops) [] loops used a number c o k is
+    common f (covered_start (names c.expr) (loop_items loops) named)
+    (some_named (names c.expr) g)
 settles_one schema database bound params [] used a number c some o named k is common false f true g
     = absurd (some refl)
-settles_one schema database bound params (l ∷ ls) used a number c some o named k is common false f
-    true g =
+settles_one schema database bound params (l ∷ ls) [] a number c some o named k is common false f
+    true g = absurd o
+settles_one schema database bound params (l ∷ ls) (u ∷ us) a number c some o named k is common false
+    f true g =
     test_at is_common params (consumed_by (l ∷ ls)) [] l.item 0 bound.conjuncts a number c
     (and_left (level_test is_common params (consumed_by (l ∷ ls)) [] l.item 0 bound.conjuncts a) _
-    (and_right (uses bound params used l a) _ k)) is common
+    (and_right (cond (is_left bound l.item) true (used_passes schema bound params l.item u a)) _ k))
+    is common
     (first_common [] l.item (names c.expr) c.owner common (empty_first l.item (names c.expr) g))
     (ap (λ m. has_number m (consumed_by (l ∷ ls))) (zero-add number) ∙ f)
 
 pub settles : (schema : Schema) (database : Database) (plan : Plan) (params : List Value)
     (fits : FitsOffers schema plan) (a : Assignment)
-    → kept
-    (steps_of schema database plan.bound params (consumed_by plan.loops)
-    (uses plan.bound params fits.used) [] plan.loops) a ≡ true
+    → kept (asked_by schema plan.bound params plan.loops fits.used)
+    (steps_of schema database plan.bound params (consumed_by plan.loops) [] plan.loops) a ≡ true
     → chosen_hold is_common params plan.bound.conjuncts a ≡ true
 settles schema database plan params fits a k =
     chosen_from is_common params plan.bound.conjuncts a

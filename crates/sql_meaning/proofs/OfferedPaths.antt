@@ -4,15 +4,20 @@ use Rattle.std.proofs.Common.{◌≡◌, Some, Bool, true, false, List, sym, ◌
 use Rattle.std.proofs.Common.{inr, Option, None, slice_get, ◌++◌}
 use Rattle.sql_meaning.specs.Paths.{form_of, is_union, IndexSeek, RowidRange, RowidEq, Path}
 use Rattle.sql_meaning.specs.Paths.{TableScan, IndexScan, Union}
-use Rattle.sql_meaning.specs.Terms.{Term, part_of, MayUse, Carries, FormCarries}
-use Rattle.sql_meaning.specs.Choices.{ColumnTerms, part_or, first_that, terms_at, is_usable, Taken}
+use Rattle.sql_meaning.specs.Terms.{Term, part_of, MayUse, Carries, LowFrom, HighFrom, FormCarries}
+use Rattle.sql_meaning.specs.Terms.{Low, High}
+use Rattle.sql_meaning.specs.Choices.{ColumnTerms, part_or, first_that, terms_at, Taken}
 use Rattle.sql_meaning.specs.Choices.{edge_of, one_or_none, seek_terms, consumed_of, Offer, seek_of}
 use Rattle.sql_meaning.specs.Choices.{seek_offer, rowid_range, rowid_equal, rowid_offer, paths_of}
 use Rattle.sql_meaning.specs.Choices.{used_of}
 use Rattle.sql_meaning.specs.Rows.{Site, AtRowid}
 use Rattle.sql_meaning.specs.Expressions.{BExprs, Nil, More, flat, Any}
 use Rattle.sql_meaning.specs.Statements.{has_number, Bound, FitsStatement, item_alias, Conjunct}
-use Rattle.sql_meaning.specs.UsedTerms.{KeysPlaced, AllOf, PathCarries, IsTerm, IsBranchTerm}
+use Rattle.sql_meaning.specs.Statements.{table_of}
+use Rattle.sql_meaning.specs.Fitting.{IsIndexOf, IsSeekOf, AreSeeksOf}
+use Rattle.sql_meaning.proofs.Fitting.{seek_is_path, seek_is_plain}
+use Rattle.sql_meaning.specs.UsedTerms.{is_usable, AreUsable, AllOf, PathCarries, IsTerm}
+use Rattle.sql_meaning.specs.UsedTerms.{IsBranchTerm}
 use Rattle.sql_meaning.specs.UsedTerms.{BranchesCarry, AreBranchTerms, AnyOf}
 use Rattle.sql_meaning.specs.Schemas.{Schema}
 use Rattle.sql_meaning.specs.OrderState.{columns_at}
@@ -20,18 +25,17 @@ use Rattle.sql_meaning.specs.IndexLists.{SortColumn, sort_columns, by_rowid}
 use Rattle.sql_meaning.specs.Offers.{IsOffer}
 use Rattle.sql_meaning.specs.Conjuncts.{may_serve}
 use Rattle.sql_meaning.proofs.Rises.{spots_are}
-use Rattle.sql_meaning.proofs.Choices.{AreColumnTerms, first_is, at_is, usable_placed, IsTaken}
-use Rattle.sql_meaning.proofs.Choices.{IsLow, IsHigh, low_is, high_is, bounds_taken, seek_taken}
+use Rattle.sql_meaning.proofs.Choices.{AreColumnTerms, first_is, at_is, IsTaken}
+use Rattle.sql_meaning.proofs.Choices.{IsBound, bound_is, bounds_taken, seek_taken}
 use Rattle.sql_meaning.proofs.Choices.{consumed_terms}
 
--- an offer that isn't a union: its path carries its used terms, which are usable and the item's (or
+-- of a seek: its path carries its used terms, which are usable and the item's (or
 -- the branch's)
 pub record IsPlainOffer (P : Term → Type 0) (schema : Schema) (alias : Option ℕ) (placed : List ℕ)
     (o : Offer) : Type 0
   where
-    pub plain : is_union o.path ≡ false
     pub carries : FormCarries alias (form_of schema o.path) o.used
-    pub usable : AllByRecursion (KeysPlaced placed) o.used
+    pub usable : AreUsable placed o.used
     pub terms : AllByRecursion P o.used
 
 seek_case : (P : Term → Type 0) (schema : Schema) (alias : Option ℕ) (placed : List ℕ) (index : ℕ)
@@ -44,12 +48,11 @@ seek_case P schema alias placed index taken t (u ∷ us) e o f =
     cc in
     subst (IsPlainOffer P schema alias placed) is
     (record {
-      plain = refl;
       carries =
           subst
           (λ (ts : List Term). Carries alias
           (sort_columns schema index) taken.eqs taken.low taken.high ts) e t.carries;
-      usable = subst (AllByRecursion (KeysPlaced placed)) e t.usable;
+      usable = subst (AreUsable placed) e t.usable;
       terms = subst (AllByRecursion P) e t.terms;
     })
 
@@ -69,12 +72,13 @@ seek_plain P schema alias placed columns index o h f =
 
 -- a seek by rowid
 rowid_may : (placed : List ℕ) (alias : Option ℕ) (t : Term) → t.column ≡ AtRowid
-    → is_usable placed t ≡ true → MayUse alias by_rowid t × KeysPlaced placed t
-rowid_may placed alias t at f = (inr (at, tt), usable_placed placed t f)
+    → is_usable placed t ≡ true → MayUse alias by_rowid t × (is_usable placed t ≡ true)
+rowid_may placed alias t at f = (inr (at, tt), f)
 
 range_plain : (P : Term → Type 0) (schema : Schema) (alias : Option ℕ) (placed : List ℕ)
     (low high : Option Term)
-    → IsLow P placed alias by_rowid low → IsHigh P placed alias by_rowid high → (o : Offer)
+    → IsBound (LowFrom alias by_rowid) P placed low
+    → IsBound (HighFrom alias by_rowid) P placed high → (o : Offer)
     → rowid_range low high ≡ Some o → IsPlainOffer P schema alias placed o
 range_plain P schema alias placed None None l h o f = absurd (cc)
 range_plain P schema alias placed (Some t) high l h o f =
@@ -86,7 +90,7 @@ range_plain P schema alias placed (Some t) high l h o f =
     cc in
     let b = bounds_taken P placed alias by_rowid [] (Some t) high l h in
     subst (IsPlainOffer P schema alias placed) is
-    (record { plain = refl; carries = b.carries; usable = b.usable; terms = b.terms })
+    (record { carries = b.carries; usable = b.usable; terms = b.terms })
 range_plain P schema alias placed None (Some u) l h o f =
     let is :
     record {
@@ -96,7 +100,7 @@ range_plain P schema alias placed None (Some u) l h o f =
     cc in
     let b = bounds_taken P placed alias by_rowid [] None (Some u) l h in
     subst (IsPlainOffer P schema alias placed) is
-    (record { plain = refl; carries = b.carries; usable = b.usable; terms = b.terms })
+    (record { carries = b.carries; usable = b.usable; terms = b.terms })
 
 equal_plain : (P : Term → Type 0) (schema : Schema) (alias : Option ℕ) (placed : List ℕ)
     (column : Site)
@@ -111,7 +115,7 @@ equal_plain P schema alias placed column is ts h range r (Some t) f o g =
     let m = rowid_may placed alias t (q.0.0 ∙ is) q.1 in
     let same : record { path = RowidEq (part_or t.kind); used = t ∷ [] } ≡ o = cc in
     subst (IsPlainOffer P schema alias placed) same
-    (record { plain = refl; carries = (m.0, q.0.1, refl); usable = (m.1, tt); terms = (q.0.2, tt) })
+    (record { carries = (m.0, q.0.1, refl); usable = (m.1, tt); terms = (q.0.2, tt) })
 
 pub rowid_plain : (P : Term → Type 0) (schema : Schema) (alias : Option ℕ) (placed : List ℕ)
     (columns : List ColumnTerms) (o : Offer)
@@ -122,9 +126,9 @@ rowid_plain P schema alias placed columns o h f =
     let ct = terms_at AtRowid columns in
     equal_plain P schema alias placed ct.column here.1 ct.equals here.0.equals _
     (λ q g. range_plain P schema alias placed _ _
-    (low_is P placed alias by_rowid ct.column (is_usable placed)
+    (bound_is Low P placed alias by_rowid ct.column (is_usable placed)
     (λ t at u. rowid_may placed alias t (at ∙ here.1) u) ct.lows here.0.lows _ refl)
-    (high_is P placed alias by_rowid ct.column (is_usable placed)
+    (bound_is High P placed alias by_rowid ct.column (is_usable placed)
     (λ t at u. rowid_may placed alias t (at ∙ here.1) u) ct.highs here.0.highs _ refl) q g)
     (first_that (is_usable placed) ct.equals) refl o f
 
@@ -142,14 +146,18 @@ path_carries schema alias (Union ps) ts u c = absurd (cc)
 pub plain_offer : (schema : Schema) (bound : Bound) (placed : List ℕ) (item : ℕ) (o : Offer)
     (back : Bool)
     → FitsStatement schema bound → has_number item placed ≡ false
+    → IsSeekOf schema (table_of (slice_get bound.items item)) o.path
     → IsPlainOffer (IsTerm schema bound item) schema (item_alias schema bound item) placed o
     → IsOffer schema bound placed
     (record { item = item; path = o.path; reverse = back; consumed = consumed_of o.used })
     (AllOf o.used)
-plain_offer schema bound placed item o back fits un p = record {
+plain_offer schema bound placed item o back fits un k p = record {
   fits = fits;
   unplaced = un;
-  carries = path_carries schema (item_alias schema bound item) o.path o.used p.plain p.carries;
+  path = seek_is_path schema (table_of (slice_get bound.items item)) o.path k;
+  carries =
+      path_carries schema (item_alias schema bound item) o.path o.used
+      (seek_is_plain schema (table_of (slice_get bound.items item)) o.path k) p.carries;
   keys = p.usable;
   comes = p.terms;
   consumes = consumed_terms o.used;
@@ -165,17 +173,27 @@ pub scan_offer : (schema : Schema) (bound : Bound) (placed : List ℕ) (item : �
     → IsOffer schema bound placed
     (record { item = item; path = TableScan; reverse = back; consumed = [] }) (AllOf [])
 scan_offer schema bound placed item back fits un =
-    record { fits = fits; unplaced = un; carries = refl; keys = tt; comes = tt; consumes = tt }
+    record {
+      fits = fits;
+      unplaced = un;
+      path = tt;
+      carries = refl;
+      keys = tt;
+      comes = tt;
+      consumes = tt;
+    }
 
 pub index_scan_offer : (schema : Schema) (bound : Bound) (placed : List ℕ) (item index : ℕ)
     (back : Bool)
     → FitsStatement schema bound → has_number item placed ≡ false
+    → IsIndexOf schema (table_of (slice_get bound.items item)) index
     → IsOffer schema bound placed
     (record { item = item; path = IndexScan index; reverse = back; consumed = [] }) (AllOf [])
-index_scan_offer schema bound placed item index back fits un =
+index_scan_offer schema bound placed item index back fits un h =
     record {
       fits = fits;
       unplaced = un;
+      path = h;
       carries = no_terms (item_alias schema bound item) (sort_columns schema index);
       keys = tt;
       comes = tt;
@@ -188,7 +206,8 @@ BranchOffers schema bound c placed item Nil [] = Unit {0}
 BranchOffers schema bound c placed item Nil (o ∷ os) = ⊥
 BranchOffers schema bound c placed item (More e es) [] = ⊥
 BranchOffers schema bound c placed item (More e es) (o ∷ os) =
-    IsPlainOffer (IsBranchTerm schema bound c item (flat e)) schema
+    IsSeekOf schema (table_of (slice_get bound.items item)) o.path
+    × IsPlainOffer (IsBranchTerm schema bound c item (flat e)) schema
     (item_alias schema bound item) placed o
     × BranchOffers schema bound c placed item es os
 
@@ -199,18 +218,31 @@ branches_carry : (schema : Schema) (bound : Bound) (c : Conjunct) (placed : List
 branches_carry schema bound c placed item Nil [] h = tt
 branches_carry schema bound c placed item Nil (o ∷ os) h = absurd h
 branches_carry schema bound c placed item (More e es) [] h = absurd h
-branches_carry schema bound c placed item (More e es) (o ∷ os) h =
-    (h.0.plain, h.0.carries, branches_carry schema bound c placed item es os h.1)
+branches_carry schema bound c placed item (More e es) (o ∷ os) h = (
+  seek_is_plain schema (table_of (slice_get bound.items item)) o.path h.0,
+  h.1.carries,
+  branches_carry schema bound c placed item es os h.2,
+)
+
+branches_fit : (schema : Schema) (bound : Bound) (c : Conjunct) (placed : List ℕ) (item : ℕ)
+    (es : BExprs) (os : List Offer)
+    → BranchOffers schema bound c placed item es os
+    → AreSeeksOf schema (table_of (slice_get bound.items item)) (paths_of os)
+branches_fit schema bound c placed item Nil [] h = tt
+branches_fit schema bound c placed item Nil (o ∷ os) h = absurd h
+branches_fit schema bound c placed item (More e es) [] h = absurd h
+branches_fit schema bound c placed item (More e es) (o ∷ os) h =
+    (h.0, branches_fit schema bound c placed item es os h.2)
 
 branches_placed : (schema : Schema) (bound : Bound) (c : Conjunct) (placed : List ℕ) (item : ℕ)
     (es : BExprs) (os : List Offer)
     → BranchOffers schema bound c placed item es os
-    → AllByRecursion (λ ts. AllByRecursion (KeysPlaced placed) ts) (used_of os)
+    → AllByRecursion (AreUsable placed) (used_of os)
 branches_placed schema bound c placed item Nil [] h = tt
 branches_placed schema bound c placed item Nil (o ∷ os) h = absurd h
 branches_placed schema bound c placed item (More e es) [] h = absurd h
 branches_placed schema bound c placed item (More e es) (o ∷ os) h =
-    (h.0.usable, branches_placed schema bound c placed item es os h.1)
+    (h.1.usable, branches_placed schema bound c placed item es os h.2)
 
 branches_terms : (schema : Schema) (bound : Bound) (c : Conjunct) (placed : List ℕ) (item : ℕ)
     (es : BExprs) (os : List Offer)
@@ -220,7 +252,7 @@ branches_terms schema bound c placed item Nil [] h = tt
 branches_terms schema bound c placed item Nil (o ∷ os) h = absurd h
 branches_terms schema bound c placed item (More e es) [] h = absurd h
 branches_terms schema bound c placed item (More e es) (o ∷ os) h =
-    (h.0.terms, branches_terms schema bound c placed item es os h.1)
+    (h.1.terms, branches_terms schema bound c placed item es os h.2)
 
 pub union_offer : (schema : Schema) (bound : Bound) (placed : List ℕ) (item : ℕ) (back : Bool)
     (number : ℕ) (c : Conjunct) (es : BExprs) (os : List Offer)
@@ -233,6 +265,7 @@ pub union_offer : (schema : Schema) (bound : Bound) (placed : List ℕ) (item : 
 union_offer schema bound placed item back number c es os fits un is allowed any h = record {
   fits = fits;
   unplaced = un;
+  path = branches_fit schema bound c placed item es os h;
   carries = branches_carry schema bound c placed item es os h;
   keys = branches_placed schema bound c placed item es os h;
   comes =

@@ -8,11 +8,12 @@ use Rattle.std.proofs.lemmas.List.Sorted.{IsPermutation-reverse}
 use Rattle.list_laws.specs.Nest.{Env, Agree, Looks, place}
 use Rattle.list_laws.specs.Tally.{SameTally, tally}
 use Rattle.list_laws.proofs.Bools.{and_left, and_right}
-use Rattle.list_laws.proofs.Lists.{all_map}
+use Rattle.list_laws.proofs.Lists.{all_map, all_both}
 use Rattle.list_laws.proofs.Nests.{place_other}
 use Rattle.list_laws.proofs.Tallies.{SameTally-refl, SameTally-sym, SameTally-map}
 use Rattle.list_laws.proofs.Permutations.{SameTally-from_permutation}
-use Rattle.sql_meaning.specs.Statements.{has_number, all_in}
+use Rattle.sql_meaning.specs.Statements.{has_number, all_in, Bound}
+use Rattle.sql_meaning.specs.Items.{Item}
 use Rattle.sql_meaning.specs.Values.{Value, Collation}
 use Rattle.sql_meaning.specs.Conversions.{converted_by}
 use Rattle.sql_meaning.specs.Rows.{Assignment, row_value, cell, Row, Site, site_value}
@@ -21,15 +22,20 @@ use Rattle.sql_meaning.specs.Paths.{KeyExpr, key_value, Path, form_of, form_hold
 use Rattle.sql_meaning.specs.Paths.{RowidEq, RowidRange, IndexScan, IndexSeek, Union, carried}
 use Rattle.sql_meaning.specs.Paths.{is_union, Paths, Nowhere, Then, any_carried, walk}
 use Rattle.sql_meaning.specs.Evaluation.{compares, equals_any}
-use Rattle.sql_meaning.specs.Terms.{TermKind, Equals, Within, IsNothing, Low, High, keys_of}
+use Rattle.sql_meaning.specs.Terms.{TermKind, Equals, Within, IsNothing, Low, High, term_keys}
 use Rattle.sql_meaning.specs.Terms.{kind_holds, Term, term_holds, terms_true, FormCarries}
-use Rattle.sql_meaning.specs.UsedTerms.{KeysPlaced, all_terms, any_terms, Used, AllOf, AnyOf}
-use Rattle.sql_meaning.specs.UsedTerms.{used_holds, UsedPlaced, BranchesCarry, PathCarries}
+use Rattle.sql_meaning.specs.UsedTerms.{is_usable, keys_in, AreUsable, all_terms}
+use Rattle.sql_meaning.specs.UsedTerms.{any_terms, Used, AllOf, AnyOf}
+use Rattle.sql_meaning.specs.UsedTerms.{UsedPlaced, BranchesCarry, PathCarries}
 use Rattle.sql_meaning.specs.Schemas.{Schema, AliasHolds, RisingRows}
 use Rattle.sql_meaning.specs.Plans.{directed_walk}
 use Rattle.sql_meaning.proofs.Evaluation.{ev_same}
 use Rattle.sql_meaning.proofs.Terms.{carries_is}
+use Rattle.sql_meaning.proofs.LikeTerms.{term_passes, no_conjunct, is_misplaced, passes_is}
+use Rattle.sql_meaning.proofs.LikeTerms.{HasNoneMisplaced}
+use Rattle.sql_meaning.proofs.PassingTerms.{used_passes, used_are, used_agree}
 use Rattle.sql_meaning.proofs.Paths.{walk_same}
+use Rattle.sql_meaning.proofs.UsedTerms.{used_holds}
 
 -- the rows of a placed item
 agree_step : {X : Type 0} (i m : ℕ) (ms : List ℕ) (env a : Env X) → Agree (m ∷ ms) env a
@@ -66,7 +72,7 @@ keys_same params (k ∷ ks) env a h =
 -- a term says the same where the items that its keys name have the same rows
 pub kind_same : (params : List Value) (collation : Collation) (kind : TermKind) (v : Value)
     (env a : Assignment)
-    → AllByRecursion (λ k. Agree (names k.expr) env a) (keys_of kind)
+    → AllByRecursion (λ k. Agree (names k.expr) env a) (term_keys kind)
     → kind_holds a params collation kind v ≡ kind_holds env params collation kind v
 kind_same params collation (Equals key) v env a h =
     ap (compares IsEqual collation v) (key_same params key env a h.0)
@@ -78,37 +84,42 @@ kind_same params collation (Low key inclusive) v env a h =
 kind_same params collation (High key inclusive) v env a h =
     ap (compares (cond inclusive IsAtMost IsBelow) collation v) (key_same params key env a h.0)
 
+-- the items that the keys of a usable term name are placed
+pub usable_names : (placed : List ℕ) (ks : List KeyExpr) → keys_in placed ks ≡ true
+    → AllByRecursion (λ k. AllByRecursion (λ i. has_number i placed ≡ true) (names k.expr)) ks
+usable_names placed [] h = tt
+usable_names placed (k ∷ ks) h = (
+  all_in_all (names k.expr) placed (and_left _ (keys_in placed ks) h),
+  usable_names placed ks (and_right (all_in (names k.expr) placed) _ h),
+)
+
 term_same : (params : List Value) (item : ℕ) (placed : List ℕ) (t : Term) (env a : Assignment)
-    → KeysPlaced placed t → Agree (item ∷ placed) env a
+    → is_usable placed t ≡ true → Agree (item ∷ placed) env a
     → term_holds a params item t ≡ term_holds env params item t
 term_same params item placed t env a p h =
     kind_same params t.collation t.kind (cell a item t.column) env a
-    (all_map _ _ (keys_of t.kind) (λ k q. agree_in placed env a (names k.expr) h.1 q) p)
+    (all_map _ _ (term_keys t.kind) (λ k q. agree_in placed env a (names k.expr) h.1 q)
+    (usable_names placed (term_keys t.kind) p))
     ∙ ap (λ o. kind_holds env params t.collation t.kind (row_value t.column o)) h.0
 
-terms_same : (params : List Value) (item : ℕ) (placed : List ℕ) (ts : List Term)
-    (env a : Assignment)
-    → AllByRecursion (KeysPlaced placed) ts → Agree (item ∷ placed) env a
-    → all_terms a params item ts ≡ all_terms env params item ts
-terms_same params item placed [] env a p h = refl
-terms_same params item placed (t ∷ ts) env a p h =
-    ap₂ (λ x y. x && y) (term_same params item placed t env a p.0 h)
-    (terms_same params item placed ts env a p.1 h)
-
-any_same : (params : List Value) (item : ℕ) (placed : List ℕ) (tss : List (List Term))
-    (env a : Assignment)
-    → AllByRecursion (λ ts. AllByRecursion (KeysPlaced placed) ts) tss → Agree (item ∷ placed) env a
-    → any_terms a params item tss ≡ any_terms env params item tss
-any_same params item placed [] env a p h = refl
-any_same params item placed (ts ∷ tss) env a p h =
-    ap₂ (λ x y. x || y) (terms_same params item placed ts env a p.0 h)
-    (any_same params item placed tss env a p.1 h)
+passes_same : (schema : Schema) (items : List Item) (params : List Value) (item : ℕ)
+    (placed : List ℕ) (env a : Assignment) (t : Term)
+    → Agree (item ∷ placed) env a → is_usable placed t ≡ true
+    → term_passes schema items params item a t ≡ term_passes schema items params item env t
+passes_same schema items params item placed env a t h p =
+    ap₂
+    (λ b o. b
+    || (no_conjunct t.conjunct
+    && is_misplaced schema items item t.column (row_value t.column o)))
+    (term_same params item placed t env a p h) h.0
 
 -- the used terms look at the placed items and the loop's own alone
-pub used_looks : (params : List Value) (item : ℕ) (placed : List ℕ) (used : Used)
-    → UsedPlaced placed used → Looks (item ∷ placed) (λ env. used_holds env params item used)
-used_looks params item placed (AllOf ts) p env a h = terms_same params item placed ts env a p h
-used_looks params item placed (AnyOf tss) p env a h = any_same params item placed tss env a p h
+pub used_looks : (schema : Schema) (bound : Bound) (params : List Value) (item : ℕ)
+    (placed : List ℕ) (used : Used)
+    → UsedPlaced placed used → Looks (item ∷ placed) (used_passes schema bound params item used)
+used_looks schema bound params item placed used p env a h =
+    used_agree placed _ _ (λ t k. passes_same schema bound.items params item placed env a t h k)
+    used p
 
 differs_from : (i item : ℕ) (placed : List ℕ) → has_number item placed ≡ false
     → has_number i placed ≡ true → item ≢ i
@@ -128,7 +139,7 @@ cell_placed env item row site lt =
 -- a term of the row that stands for the item, for given rows of the placed items
 term_placed : (params : List Value) (placed : List ℕ) (item : ℕ) (env : Assignment) (row : Row)
     (t : Term)
-    → has_number item placed ≡ false → item < length env → KeysPlaced placed t
+    → has_number item placed ≡ false → item < length env → is_usable placed t ≡ true
     → kind_holds env params t.collation t.kind (site_value t.column row)
     ≡ term_holds (place env item (Some row)) params item t
 term_placed params placed item env row t h lt p =
@@ -136,12 +147,13 @@ term_placed params placed item env row t h lt p =
     ∙ sym
     (kind_same params t.collation t.kind (cell (place env item (Some row)) item t.column) env
     (place env item (Some row))
-    (all_map _ _ (keys_of t.kind)
-    (λ k q. agree_placed placed item env (Some row) (names k.expr) h q) p))
+    (all_map _ _ (term_keys t.kind)
+    (λ k q. agree_placed placed item env (Some row) (names k.expr) h q)
+    (usable_names placed (term_keys t.kind) p)))
 
 pub terms_placed : (params : List Value) (placed : List ℕ) (item : ℕ) (env : Assignment) (row : Row)
     (ts : List Term)
-    → has_number item placed ≡ false → item < length env → AllByRecursion (KeysPlaced placed) ts
+    → has_number item placed ≡ false → item < length env → AreUsable placed ts
     → terms_true env params ts row ≡ all_terms (place env item (Some row)) params item ts
 terms_placed params placed item env row [] h lt p = refl
 terms_placed params placed item env row (t ∷ ts) h lt p =
@@ -175,7 +187,7 @@ plain_true schema params alias (Union ps) env row ts u c k = absurd (cc)
 branches_true : (schema : Schema) (params : List Value) (alias : Option ℕ) (ps : Paths)
     (placed : List ℕ) (item : ℕ) (env : Assignment) (row : Row) (tss : List (List Term))
     → BranchesCarry schema alias ps tss → AliasHolds alias row → has_number item placed ≡ false
-    → item < length env → AllByRecursion (λ ts. AllByRecursion (KeysPlaced placed) ts) tss
+    → item < length env → AllByRecursion (AreUsable placed) tss
     → any_carried schema params ps env row ≡ any_terms (place env item (Some row)) params item tss
 branches_true schema params alias Nowhere placed item env row [] c k h lt p = refl
 branches_true schema params alias Nowhere placed item env row (ts ∷ tss) c k h lt p = absurd c
@@ -222,6 +234,20 @@ carried_true schema params alias (IndexScan index) placed item env row (AnyOf ts
 carried_true schema params alias (IndexSeek index eqs low high) placed item env row (AnyOf tss) c k
     h lt p = absurd c
 
+-- and there, on a row without misplaced numbers, they pass just where they hold
+pub used_placed : (schema : Schema) (bound : Bound) (params : List Value) (placed : List ℕ)
+    (item : ℕ) (env : Assignment) (row : Row) (used : Used)
+    → item < length env → UsedPlaced placed used → HasNoneMisplaced schema bound.items item row
+    → used_holds (place env item (Some row)) params item used
+    ≡ used_passes schema bound params item used (place env item (Some row))
+used_placed schema bound params placed item env row used lt p good =
+    used_are (place env item (Some row)) params item used
+    ∙ used_agree placed _ _
+    (λ t k. sym
+    (passes_is schema bound.items params item (place env item (Some row)) t
+    (ap (is_misplaced schema bound.items item t.column) (cell_placed env item row t.column lt)
+    ∙ good t.column))) used p
+
 pub filter_on : {X : Type 0} (p q : X → Bool) (xs : List X) → AllByRecursion (λ x. p x ≡ q x) xs
     → filter p xs ≡ filter q xs
 filter_on p q [] h = refl
@@ -246,20 +272,28 @@ directed_same true xs =
 directed_same false xs = SameTally-refl xs
 
 -- for given rows of the placed items a walk has, in some order, the rows on which the used terms
--- hold, each as often
-pub walk_used : (schema : Schema) (params : List Value) (alias : Option ℕ) (path : Path)
-    (back : Bool) (rows : List Row) (placed : List ℕ) (item : ℕ) (env : Assignment) (used : Used)
-    → RisingRows rows → AllByRecursion (AliasHolds alias) rows → PathCarries schema alias path used
+-- pass, each as often
+pub walk_used : (schema : Schema) (bound : Bound) (params : List Value) (alias : Option ℕ)
+    (path : Path) (back : Bool) (rows : List Row) (placed : List ℕ) (item : ℕ) (env : Assignment)
+    (used : Used)
+    → RisingRows rows → AllByRecursion (AliasHolds alias) rows
+    → AllByRecursion (HasNoneMisplaced schema bound.items item) rows
+    → PathCarries schema alias path used
     → has_number item placed ≡ false → item < length env → UsedPlaced placed used
     → SameTally (map Some (directed_walk back (walk schema params path rows env)))
-    (filter (λ x. used_holds (place env item x) params item used) (map Some rows))
-walk_used schema params alias path back rows placed item env used rising aliased c h lt p = record {
-  each = λ f.
-      (SameTally-map Some _ _ (directed_same back (walk schema params path rows env))).each f
-      ∙ (SameTally-map Some _ _ (walk_same schema params path rows env rising)).each f
-      ∙ ap (λ zs. tally f (map Some zs))
-      (filter_on _ (λ row. used_holds (place env item (Some row)) params item used) rows
-      (all_map _ _ rows
-      (λ row k. carried_true schema params alias path placed item env row used c k h lt p) aliased))
-      ∙ ap (tally f) (filter_some Some (λ x. used_holds (place env item x) params item used) rows);
-}
+    (filter (λ x. used_passes schema bound params item used (place env item x)) (map Some rows))
+walk_used schema bound params alias path back rows placed item env used rising aliased good c h lt p
+    = record {
+      each = λ f.
+          (SameTally-map Some _ _ (directed_same back (walk schema params path rows env))).each f
+          ∙ (SameTally-map Some _ _ (walk_same schema params path rows env rising)).each f
+          ∙ ap (λ zs. tally f (map Some zs))
+          (filter_on _
+          (λ row. used_passes schema bound params item used (place env item (Some row))) rows
+          (all_both _ _ _ rows
+          (λ row k g. carried_true schema params alias path placed item env row used c k h lt p
+          ∙ used_placed schema bound params placed item env row used lt p g) aliased good))
+          ∙ ap (tally f)
+          (filter_some Some
+          (λ x. used_passes schema bound params item used (place env item x)) rows);
+    }

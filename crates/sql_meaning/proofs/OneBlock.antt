@@ -1,7 +1,7 @@
 -- What the loops of one block find, and what they leave out.
 use Rattle.std.specs.List.{AllByRecursion, filter, flat_map}
 use Rattle.std.proofs.Common.{◌≡◌, ℕ, false, List, ◌∙◌, [], true, Some, sym, subst, slice_get, ◌∷◌}
-use Rattle.std.proofs.Common.{Bool, suc, not, ◌&&◌, ◌||◌, refl, ◌++◌, ◌≢◌, ap, zero-add}
+use Rattle.std.proofs.Common.{Bool, suc, cond, not, ◌&&◌, ◌||◌, refl, ◌++◌, ◌≢◌, ap, zero-add}
 use Rattle.list_laws.specs.Nest.{kept, nested, product, Distinct, Inside, Apart, Rearranges}
 use Rattle.list_laws.specs.Nest.{IsPartOf}
 use Rattle.list_laws.proofs.Bools.{not_true, cond_same, and_left, and_right, or_cases}
@@ -23,7 +23,19 @@ use Rattle.sql_meaning.proofs.Means.{Covered, has_append, settled_used, settled_
 use Rattle.sql_meaning.proofs.Means.{empty_first, sound}
 use Rattle.sql_meaning.proofs.PlanRows.{free_choices}
 use Rattle.sql_meaning.proofs.Plans.{test_at, chosen_from, steps_items}
-use Rattle.sql_meaning.proofs.KeptLoops.{uses, ours_free, are_steps}
+use Rattle.sql_meaning.proofs.KeptLoops.{asked_by, ours_free, are_steps}
+use Rattle.sql_meaning.proofs.PassingTerms.{used_passes}
+
+fails_later : (p : Conjunct → Bool) (params : List Value) (c : Conjunct) (cs : List Conjunct)
+    (a : Assignment)
+    → SomeFails p params cs a → SomeFails p params (c ∷ cs) a
+fails_later p params c cs a r = record {
+  number = suc r.number;
+  conjunct = r.conjunct;
+  is = r.is;
+  is_chosen = r.is_chosen;
+  fails = r.fails;
+}
 
 fails_case : (p : Conjunct → Bool) (params : List Value) (c : Conjunct) (cs : List Conjunct)
     (a : Assignment)
@@ -32,24 +44,8 @@ fails_case : (p : Conjunct → Bool) (params : List Value) (c : Conjunct) (cs : 
     → SomeFails p params (c ∷ cs) a
 fails_case p params c cs a ih true false e g f =
     record { number = 0; conjunct = c; is = refl; is_chosen = e; fails = g }
-fails_case p params c cs a ih true true e g f =
-    let r = ih f in
-    record {
-      number = suc r.number;
-      conjunct = r.conjunct;
-      is = r.is;
-      is_chosen = r.is_chosen;
-      fails = r.fails;
-    }
-fails_case p params c cs a ih false h e g f =
-    let r = ih f in
-    record {
-      number = suc r.number;
-      conjunct = r.conjunct;
-      is = r.is;
-      is_chosen = r.is_chosen;
-      fails = r.fails;
-    }
+fails_case p params c cs a ih true true e g f = fails_later p params c cs a (ih f)
+fails_case p params c cs a ih false h e g f = fails_later p params c cs a (ih f)
 
 pub some_fails : (p : Conjunct → Bool) (params : List Value) (cs : List Conjunct) (a : Assignment)
     → chosen_hold p params cs a ≡ false → SomeFails p params cs a
@@ -87,12 +83,12 @@ empty_is [] h = refl
 empty_is (n ∷ ns) h = absurd (cc)
 
 block_case : (schema : Schema) (database : Database) (bound : Bound) (params : List Value)
-    (consumed left : List ℕ) (loops : List Loop) (used : Loop → Used) (a : Assignment) (number : ℕ)
+    (consumed left : List ℕ) (loops : List Loop) (used : List Used) (a : Assignment) (number : ℕ)
     (c : Conjunct)
     → loops ≢ [] → AreOffers schema bound left loops used
     → ConsumesOwn bound consumed left (loop_items loops) loops
-    → kept (steps_of schema database bound params consumed (uses bound params used) left loops) a
-    ≡ true
+    → kept (asked_by schema bound params loops used)
+    (steps_of schema database bound params consumed left loops) a ≡ true
     → slice_get bound.conjuncts number ≡ Some c → is_common c ≡ true
     → first_in left (loop_items loops) (names c.expr) ≡ true → (b : Bool)
     → has_number number consumed ≡ b → holds a params c.expr ≡ true
@@ -102,19 +98,22 @@ block_case schema database bound params consumed left loops used a number c some
     (own number c is common first e)
 block_case schema database bound params consumed left [] used a number c some o own k is common
     first false e = absurd (some refl)
-block_case schema database bound params consumed left (l ∷ ls) used a number c some o own k is
+block_case schema database bound params consumed left (l ∷ ls) [] a number c some o own k is common
+    first false e = absurd o
+block_case schema database bound params consumed left (l ∷ ls) (u ∷ us) a number c some o own k is
     common first false e =
     or_cases
     (all_in (names c.expr) (loop_items (l ∷ ls) ++ left) && not (all_in (names c.expr) left))
     (is_empty (names c.expr) && is_empty left)
-    (λ t. settled_test schema database bound params consumed left (l ∷ ls)
-    (uses bound params used) a number c k is common e
+    (λ t. settled_test schema database bound params consumed left (l ∷ ls) (u ∷ us) a number c o k
+    is common e
     (covered_by (names c.expr) (loop_items (l ∷ ls)) left
     (and_left _ (not (all_in (names c.expr) left)) t))
     (not_true _ (and_right (all_in (names c.expr) (loop_items (l ∷ ls) ++ left)) _ t)))
     (λ t. test_at is_common params consumed left l.item 0 bound.conjuncts a number c
     (and_left (level_test is_common params consumed left l.item 0 bound.conjuncts a) _
-    (and_right (uses bound params used l a) _ k)) is common
+    (and_right (cond (is_left bound l.item) true (used_passes schema bound params l.item u a)) _ k))
+    is common
     (subst (λ (ps : List ℕ). first_at ps l.item c ≡ true)
     (sym (empty_is left (and_right (is_empty (names c.expr)) _ t)))
     (first_common [] l.item (names c.expr) c.owner common
@@ -124,7 +123,7 @@ block_case schema database bound params consumed left (l ∷ ls) used a number c
 
 -- the law of a block, for any list of consumed conjuncts of which the block consumes its own
 pub block_of_loops : (schema : Schema) (database : Database) (bound : Bound)
-    (params : List Value) (consumed left : List ℕ) (loops : List Loop) (used : Loop → Used)
+    (params : List Value) (consumed left : List ℕ) (loops : List Loop) (used : List Used)
     (order : List ℕ) (G : List Assignment)
     → IsDatabase schema bound database → OwnersAreLeft bound → loops ≢ []
     → AreOffers schema bound left loops used
@@ -134,7 +133,7 @@ pub block_of_loops : (schema : Schema) (database : Database) (bound : Bound)
     → Apart left order → AllByRecursion (Inside order) G
     → IsPartOf (order ++ left) (chosen_hold is_common params bound.conjuncts ∷ [])
     (flat_map
-    (nested (steps_of schema database bound params consumed (uses bound params used) left loops)) G)
+    (nested (steps_of schema database bound params consumed left loops)) G)
     (flat_map
     (λ g. filter (block_holds bound params left (loop_items loops))
     (product (choices database bound params) order g)) G)
@@ -143,11 +142,11 @@ block_of_loops schema database bound params consumed left loops used order G val
     block_law (choices database bound params)
     (λ i h env a. free_choices database bound params i (is_left bound i) h _ _ _)
     (chosen_hold is_common params bound.conjuncts ∷ [])
-    (block_holds bound params left (loop_items loops))
-    (steps_of schema database bound params consumed (uses bound params used) left loops) order left
+    (block_holds bound params left (loop_items loops)) (asked_by schema bound params loops used)
+    (steps_of schema database bound params consumed left loops) order left
     G
     (subst (λ (is : List ℕ). Rearranges (λ i. not (is_left bound i)) is order)
-    (sym (steps_items schema database bound params consumed (uses bound params used) left loops))
+    (sym (steps_items schema database bound params consumed left loops))
     re) inside distinct apart
     (are_steps schema database bound params consumed left loops used valid owners offered
     (ours_free bound consumed loops owners plain))

@@ -7,12 +7,13 @@ use Rattle.std.specs.Cmp.{IsTotalOrder}
 use Rattle.std.proofs.lemmas.Cmp.{tied_itself, tied_back, on_total, then_total, nat_cmp_total}
 use Rattle.std.proofs.lemmas.Cmp.{int_cmp_total, nat_list_cmp_total}
 use Rattle.sql_meaning.specs.Values.{Value, Collation, value_cmp, Before, Same, class_of, units_of}
-use Rattle.sql_meaning.specs.Values.{key_of}
+use Rattle.sql_meaning.specs.Values.{collation_key}
 
 pub value_cmp_total : (coll : Collation) → IsTotalOrder (value_cmp coll)
 value_cmp_total coll =
     then_total (on_total class_of nat_cmp_total)
-    (then_total (on_total units_of int_cmp_total) (on_total (key_of coll) nat_list_cmp_total))
+    (then_total (on_total units_of int_cmp_total)
+    (on_total (collation_key coll) nat_list_cmp_total))
 
 no_less : Less ≡ Equal → ⊥
 no_less e = absurd (cc)

@@ -7,7 +7,7 @@ use Rattle.std.proofs.Common.{◌≡◌, ℕ, Some, List, None, ap, sym, ◌∙�
 use Rattle.std.proofs.Common.{Bool, true, false, cond, Option, ◌≢◌, map}
 use Rattle.std.proofs.lemmas.Cmp.{tied_itself}
 use Rattle.list_laws.specs.Nest.{place, Step, nested, step_items}
-use Rattle.list_laws.specs.Order.{Ascends, RisesStrictly}
+use Rattle.list_laws.specs.Order.{Ascends}
 use Rattle.list_laws.proofs.Lists.{all_map, all_always, all_flat_map, all_both}
 use Rattle.list_laws.proofs.Nests.{Differs, place_other}
 use Rattle.list_laws.proofs.NestOrders.{Crosses, Ascends-flat_map, pairs_from, tied_all}
@@ -23,6 +23,7 @@ use Rattle.sql_meaning.specs.Plans.{missing_if}
 use Rattle.sql_meaning.proofs.Terms.{bare_is}
 use Rattle.sql_meaning.proofs.Order.{value_cmp_total}
 use Rattle.sql_meaning.proofs.TiedPositions.{directed_tie}
+use Rattle.list_laws.specs.Order.{RisesStrictly}
 
 -- the key is a column of the item
 pub record IsOwn (item : ℕ) (k : SortKey) : Type 0 where

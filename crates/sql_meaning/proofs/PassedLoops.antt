@@ -5,10 +5,10 @@ use Rattle.std.specs.declared.cmp.Ordering.TheVariants.{Equal as Ties, Less}
 use Rattle.std.specs.declared.cmp.Ordering.{Ordering}
 use Rattle.std.proofs.Common.{◌≡◌, ℕ, Some, List, None, ap, sym, ◌∙◌, [], refl, ap₂, Bool, true}
 use Rattle.std.proofs.Common.{false, cond, Option, ◌≢◌, map, ◌==◌, ◌<◌, length, not, ◌&&◌, ◌++◌}
-use Rattle.std.proofs.Common.{subst}
+use Rattle.std.proofs.Common.{subst, fold}
 use Rattle.std.proofs.lemmas.Bool.{eqb-true}
 use Rattle.list_laws.specs.Nest.{place}
-use Rattle.list_laws.specs.Order.{Ascends, RisesStrictly}
+use Rattle.list_laws.specs.Order.{Ascends}
 use Rattle.list_laws.proofs.Lists.{all_map, all_both}
 use Rattle.list_laws.proofs.Orders.{Ascends-filter}
 use Rattle.list_laws.proofs.Bools.{and_left, and_right}
@@ -23,8 +23,8 @@ use Rattle.sql_meaning.specs.Paths.{IndexScan, IndexSeek, Union}
 use Rattle.sql_meaning.specs.Plans.{directed_walk, Loop, loop_walk}
 use Rattle.sql_meaning.specs.OrderState.{test_column, on_item, Position, key_matches}
 use Rattle.sql_meaning.specs.OrderState.{needs_backward, positions, path_held, key_held, is_single}
-use Rattle.sql_meaning.specs.OrderState.{drop_held, lost_by, backward, Loses, Leaves, pass}
-use Rattle.sql_meaning.specs.OrderState.{loop_passes}
+use Rattle.sql_meaning.specs.OrderState.{drop_held, lost_by, is_backward, Loses, Leaves}
+use Rattle.sql_meaning.specs.OrderState.{loop_passes, pass_position}
 use Rattle.sql_meaning.specs.Schemas.{Schema, AliasHolds, RisingRows, Database}
 use Rattle.sql_meaning.specs.Conjuncts.{level_test}
 use Rattle.sql_meaning.proofs.Databases.{IsDatabase}
@@ -39,6 +39,7 @@ use Rattle.sql_meaning.proofs.Passes.{leaves_keys, pass_is}
 use Rattle.sql_meaning.proofs.Paths.{all_walk}
 use Rattle.sql_meaning.proofs.Ordered.{IsOwn, by_own, rises_map, ascends_map, rises_some}
 use Rattle.sql_meaning.proofs.Ordered.{ascends_some, rises_missing, ascends_missing}
+use Rattle.list_laws.specs.Order.{RisesStrictly}
 
 -- a test of a key's column
 pub record IsTested (item : ℕ) (test : Site → Bool) (k : SortKey) : Type 0 where
@@ -252,18 +253,20 @@ lost_union (IndexScan index) h = refl
 lost_union (IndexSeek index eqs low high) h = refl
 lost_union (Union branches) h = h
 
-own_direction : (out : Option Bool) → IsDirection out (backward out)
-own_direction None = tt
-own_direction (Some d) = refl
+own_direction : (left : List SortKey) (out : Option Bool)
+    → IsDirection out (is_backward (Leaves left out))
+own_direction left None = tt
+own_direction left (Some d) = refl
 
 rows_case : (schema : Schema) (params : List Value) (alias : Option ℕ) (item : ℕ) (path : Path)
     (back : Bool) (rows : List Row) (env : Assignment) (keys left : List SortKey)
     (out : Option Bool)
     → RisingRows rows → AllByRecursion (AliasHolds alias) rows → item < length env
-    → back ≡ backward out → (b c : Bool) → lost_by path ≡ b → is_single path ≡ c
+    → back ≡ is_backward (Leaves left out) → (b c : Bool) → lost_by path ≡ b → is_single path ≡ c
     → cond b Loses
     (cond c (Leaves (drop_held (λ k. on_item item (bare_column k.expr)) keys) None)
-    (pass item (key_held schema alias item path) (positions schema alias path) None keys))
+    (fold (pass_position item (key_held schema alias item path)) (Leaves keys None)
+    (positions schema alias path)))
     ≡ Leaves left out
     → IsLoopPassed params env item
     (map Some (directed_walk back (walk schema params path rows env))) keys left
@@ -286,13 +289,14 @@ rows_case schema params alias item path back rows env keys left out rising alias
     (λ p k m.
     (tested item (λ site. same_site p.site site && same_collation p.collation k.collation) k m).own)
     back (positions schema alias path) None keys left out h
-    (subst (IsDirection out) (sym same) (own_direction out)))
+    (subst (IsDirection out) (sym same) (own_direction left out)))
 
 -- a filter, and the missing row of a LEFT loop, keep the order
 pub loop_passed : (schema : Schema) (database : Database) (bound : Bound)
     (params : List Value) (consumed placed : List ℕ) (l : Loop) (env : Assignment)
     (keys left : List SortKey) (out : Option Bool)
-    → IsDatabase schema bound database → l.item < length env → l.reverse ≡ backward out
+    → IsDatabase schema bound database → l.item < length env
+    → l.reverse ≡ is_backward (Leaves left out)
     → loop_passes schema bound l keys ≡ Leaves left out
     → IsLoopPassed params env l.item
     (loop_walk schema database bound params consumed placed l env) keys left

@@ -4,10 +4,11 @@ use Rattle.std.specs.declared.cmp.Ordering.{Ordering}
 use Rattle.std.specs.declared.cmp.Ordering.TheVariants.{Equal, Less, Greater}
 use Rattle.std.specs.Ordering.{is_le, ordering_then}
 use Rattle.std.proofs.Common.{◌≡◌, ℕ, Bool, true, List, ◌≢◌, [], ◌++◌, false, cond, ◌∷◌, refl, ap}
-use Rattle.std.proofs.Common.{Option, Some, None, sym, ◌∙◌, append_assoc, subst}
+use Rattle.std.proofs.Common.{Option, Some, None, sym, ◌∙◌, append_assoc, subst, fold, ◌&&◌}
+use Rattle.list_laws.proofs.Bools.{and_left, and_right}
 use Rattle.sql_meaning.specs.Statements.{SortKey}
 use Rattle.sql_meaning.specs.OrderState.{Position, key_matches, needs_backward, drop_held, Leaves}
-use Rattle.sql_meaning.specs.OrderState.{Loses, with_direction, at_position, pass}
+use Rattle.sql_meaning.specs.OrderState.{Loses, agrees, pass_next, pass_position}
 use Rattle.sql_meaning.specs.Orders.{lex_of, same_flag}
 
 -- what is known of two rows of a walk: they tie by what is held, and a key that matches a position,
@@ -92,40 +93,57 @@ pub leaves_keys : (ks ls : List SortKey) (a b : Option Bool) → Leaves ks a ≡
     × (a ≡ b)
 leaves_keys ks ls a b e = (cc, cc)
 
+same_is : (a b : Bool) → same_flag a b ≡ true → a ≡ b
+same_is true true h = refl
+same_is true false h = absurd (cc)
+same_is false true h = absurd (cc)
+same_is false false h = refl
+
+-- an order that is lost stays lost
+lost_stays : (item : ℕ) (held : SortKey → Bool) (ps : List Position) (left : List SortKey)
+    (out : Option Bool)
+    → fold (pass_position item held) Loses ps ≡ Leaves left out → ⊥
+lost_stays item held [] left out h = cc
+lost_stays item held (p ∷ ps) left out h = lost_stays item held ps left out h
+
+-- where no key is left, none comes back
+none_left : (item : ℕ) (held : SortKey → Bool) (ps : List Position) (direction : Option Bool)
+    (left : List SortKey) (out : Option Bool)
+    → fold (pass_position item held) (Leaves [] direction) ps ≡ Leaves left out → left ≡ []
+none_left item held [] direction left out h = sym (leaves_keys [] left direction out h).0
+none_left item held (p ∷ ps) direction left out h = none_left item held ps direction left out h
+
 -- once fixed, a direction stays
-mutual_direction : (item : ℕ) (held : SortKey → Bool) (ps : List Position) (e : Bool)
+fixed_stays : (item : ℕ) (held : SortKey → Bool) (ps : List Position) (e : Bool)
     (keys left : List SortKey) (out : Option Bool)
-    → pass item held ps (Some e) keys ≡ Leaves left out → out ≡ Some e
-mutual_direction item held [] e keys left out h = sym (leaves_keys keys left (Some e) out h).1
-mutual_direction item held (p ∷ ps) e keys left out h =
-    position_case (λ ks g. mutual_direction item held ps e ks left out g) (drop_held held keys) h
+    → fold (pass_position item held) (Leaves keys (Some e)) ps ≡ Leaves left out → out ≡ Some e
+fixed_stays item held [] e keys left out h = sym (leaves_keys keys left (Some e) out h).1
+fixed_stays item held (p ∷ ps) e keys left out h =
+    next_case (λ ks g. fixed_stays item held ps e ks left out g) (drop_held held keys) h
   where
-    flag_case : ((ks : List SortKey) → pass item held ps (Some e) ks ≡ Leaves left out
-        → out ≡ Some e)
-        → (needed : Bool) (ks : List SortKey) (b : Bool)
-        → cond b (pass item held ps (Some e) ks) Loses ≡ Leaves left out → out ≡ Some e
-    flag_case ih needed ks true h = ih ks h
-    flag_case ih needed ks false h = absurd (cc)
-
-    match_case : ((ks : List SortKey) → pass item held ps (Some e) ks ≡ Leaves left out
-        → out ≡ Some e)
-        → (k : SortKey) (ks : List SortKey) (b m : Bool)
-        → cond b (pass item held ps (Some e) (k ∷ ks))
-        (cond m
-        (with_direction (Some e) (needs_backward p k) (λ d. pass item held ps (Some d) ks)) Loses)
-        ≡ Leaves left out
+    match_case : ((ks : List SortKey)
+        → fold (pass_position item held) (Leaves ks (Some e)) ps ≡ Leaves left out → out ≡ Some e)
+        → (k : SortKey) (ks : List SortKey) (b m : Bool) → p.held ≡ b
+        → (key_matches item p k && same_flag e (needs_backward p k)) ≡ m
+        → fold (pass_position item held)
+        (cond b (Leaves (k ∷ ks) (Some e)) (cond m (Leaves ks (Some (needs_backward p k))) Loses))
+        ps ≡ Leaves left out
         → out ≡ Some e
-    match_case ih k ks true m h = ih (k ∷ ks) h
-    match_case ih k ks false true h =
-        flag_case ih (needs_backward p k) ks (same_flag e (needs_backward p k)) h
-    match_case ih k ks false false h = absurd (cc)
+    match_case ih k ks true m hb hm h = ih (k ∷ ks) h
+    match_case ih k ks false true hb hm h =
+        ih ks
+        (subst
+        (λ (d : Bool). fold (pass_position item held) (Leaves ks (Some d)) ps ≡ Leaves left out)
+        (sym (same_is e (needs_backward p k) (and_right (key_matches item p k) _ hm))) h)
+    match_case ih k ks false false hb hm h = absurd (lost_stays item held ps left out h)
 
-    position_case : ((ks : List SortKey) → pass item held ps (Some e) ks ≡ Leaves left out
-        → out ≡ Some e)
-        → (keys : List SortKey)
-        → at_position item (Some e) p (pass item held ps) keys ≡ Leaves left out → out ≡ Some e
-    position_case ih [] h = sym (leaves_keys [] left (Some e) out h).1
-    position_case ih (k ∷ ks) h = match_case ih k ks p.held (key_matches item p k) h
+    next_case : ((ks : List SortKey)
+        → fold (pass_position item held) (Leaves ks (Some e)) ps ≡ Leaves left out → out ≡ Some e)
+        → (ks : List SortKey)
+        → fold (pass_position item held) (pass_next item p (Some e) ks) ps ≡ Leaves left out
+        → out ≡ Some e
+    next_case ih [] h = ih [] h
+    next_case ih (k ∷ ks) h = match_case ih k ks p.held _ refl refl h
 
 held_step : (item : ℕ) (held : SortKey → Bool) (Own : SortKey → Type 0)
     → ((k : SortKey) → held k ≡ true → Own k)
@@ -181,12 +199,6 @@ done_step item held Own owns d ps keys left f e l = record {
   strictly = λ n. absurd (n l);
 }
 
-same_is : (a b : Bool) → same_flag a b ≡ true → a ≡ b
-same_is true true h = refl
-same_is true false h = absurd (cc)
-same_is false true h = absurd (cc)
-same_is false false h = refl
-
 -- passing the positions of a walk says that the passed keys rise with them, and strictly where keys
 -- are left
 pub pass_is : (item : ℕ) (held : SortKey → Bool) (Own : SortKey → Type 0)
@@ -194,8 +206,8 @@ pub pass_is : (item : ℕ) (held : SortKey → Bool) (Own : SortKey → Type 0)
     → ((p : Position) (k : SortKey) → key_matches item p k ≡ true → Own k)
     → (d : Bool) (ps : List Position) (direction : Option Bool) (keys left : List SortKey)
     (out : Option Bool)
-    → pass item held ps direction keys ≡ Leaves left out → IsDirection out d
-    → IsPassed item held Own d ps keys left
+    → fold (pass_position item held) (Leaves keys direction) ps ≡ Leaves left out
+    → IsDirection out d → IsPassed item held Own d ps keys left
 pass_is item held Own owns matches d [] direction keys left out h fixed = record {
   passed = [];
   is = (leaves_keys keys left direction out h).0;
@@ -204,64 +216,38 @@ pass_is item held Own owns matches d [] direction keys left out h fixed = record
   strictly = λ n kc pc t less. absurd (cc);
 }
 pass_is item held Own owns matches d (p ∷ ps) direction keys left out h fixed =
-    position_case (λ dir ks g. pass_is item held Own owns matches d ps dir ks left out g fixed)
+    next_case (λ dir ks g. pass_is item held Own owns matches d ps dir ks left out g fixed)
     (drop_held held keys) refl h
   where
-    keep : ((direction : Option Bool) (ks : List SortKey)
-        → pass item held ps direction ks ≡ Leaves left out → IsPassed item held Own d ps ks left)
-        → (dir : Option Bool) (needed : Bool) (k : SortKey) (ks : List SortKey)
-        → drop_held held keys ≡ k ∷ ks → key_matches item p k ≡ true → needs_backward p k ≡ needed
-        → pass item held ps (Some needed) ks ≡ Leaves left out
-        → IsPassed item held Own d (p ∷ ps) keys left
-    keep ih dir needed k ks e m n h =
-        let final : out ≡ Some needed = mutual_direction item held ps needed ks left out h in
-        let agreed : needed ≡ d = subst (λ (o : Option Bool). IsDirection o d) final fixed in
-        match_step item held Own owns d p ps keys left (held_front held keys) k ks e
-        (matches p k m) m (n ∙ agreed) (ih (Some needed) ks h)
-
-    flag_case : ((direction : Option Bool) (ks : List SortKey)
-        → pass item held ps direction ks ≡ Leaves left out → IsPassed item held Own d ps ks left)
-        → (e : Bool) (k : SortKey) (ks : List SortKey) → drop_held held keys ≡ k ∷ ks
-        → key_matches item p k ≡ true → (b : Bool) → same_flag e (needs_backward p k) ≡ b
-        → cond b (pass item held ps (Some e) ks) Loses ≡ Leaves left out
-        → IsPassed item held Own d (p ∷ ps) keys left
-    flag_case ih e k ks g m true s h =
-        keep ih (Some e) e k ks g m (sym (same_is e (needs_backward p k) s)) h
-    flag_case ih e k ks g m false s h = absurd (cc)
-
-    direction_case : ((direction : Option Bool) (ks : List SortKey)
-        → pass item held ps direction ks ≡ Leaves left out → IsPassed item held Own d ps ks left)
-        → (dir : Option Bool) (k : SortKey) (ks : List SortKey) → drop_held held keys ≡ k ∷ ks
-        → key_matches item p k ≡ true
-        → with_direction dir (needs_backward p k) (λ d. pass item held ps (Some d) ks)
-        ≡ Leaves left out
-        → IsPassed item held Own d (p ∷ ps) keys left
-    direction_case ih None k ks g m h = keep ih None (needs_backward p k) k ks g m refl h
-    direction_case ih (Some e) k ks g m h =
-        flag_case ih e k ks g m (same_flag e (needs_backward p k)) refl h
-
     match_case : ((direction : Option Bool) (ks : List SortKey)
-        → pass item held ps direction ks ≡ Leaves left out → IsPassed item held Own d ps ks left)
+        → fold (pass_position item held) (Leaves ks direction) ps ≡ Leaves left out
+        → IsPassed item held Own d ps ks left)
         → (k : SortKey) (ks : List SortKey) → drop_held held keys ≡ k ∷ ks → (b m : Bool)
-        → p.held ≡ b → key_matches item p k ≡ m
-        → cond b (pass item held ps direction (k ∷ ks))
-        (cond m
-        (with_direction direction (needs_backward p k) (λ d. pass item held ps (Some d) ks)) Loses)
-        ≡ Leaves left out
+        → p.held ≡ b → (key_matches item p k && agrees direction (needs_backward p k)) ≡ m
+        → fold (pass_position item held)
+        (cond b (Leaves (k ∷ ks) direction) (cond m (Leaves ks (Some (needs_backward p k))) Loses))
+        ps ≡ Leaves left out
         → IsPassed item held Own d (p ∷ ps) keys left
     match_case ih k ks g true m hb hm h =
         held_step item held Own owns d p ps keys left (held_front held keys) hb
         (subst (λ (zs : List SortKey). IsPassed item held Own d ps zs left) (sym g)
         (ih direction (k ∷ ks) h))
-    match_case ih k ks g false true hb hm h = direction_case ih direction k ks g hm h
-    match_case ih k ks g false false hb hm h = absurd (cc)
+    match_case ih k ks g false true hb hm h =
+        let is = and_left (key_matches item p k) _ hm in
+        let final : out ≡ Some (needs_backward p k) =
+        fixed_stays item held ps (needs_backward p k) ks left out h in
+        match_step item held Own owns d p ps keys left (held_front held keys) k ks g
+        (matches p k is) is (subst (λ (o : Option Bool). IsDirection o d) final fixed)
+        (ih (Some (needs_backward p k)) ks h)
+    match_case ih k ks g false false hb hm h = absurd (lost_stays item held ps left out h)
 
-    position_case : ((direction : Option Bool) (ks : List SortKey)
-        → pass item held ps direction ks ≡ Leaves left out → IsPassed item held Own d ps ks left)
+    next_case : ((direction : Option Bool) (ks : List SortKey)
+        → fold (pass_position item held) (Leaves ks direction) ps ≡ Leaves left out
+        → IsPassed item held Own d ps ks left)
         → (rest : List SortKey) → drop_held held keys ≡ rest
-        → at_position item direction p (pass item held ps) rest ≡ Leaves left out
+        → fold (pass_position item held) (pass_next item p direction rest) ps ≡ Leaves left out
         → IsPassed item held Own d (p ∷ ps) keys left
-    position_case ih [] g h =
+    next_case ih [] g h =
         done_step item held Own owns d (p ∷ ps) keys left (held_front held keys) g
-        (sym (leaves_keys [] left direction out h).0)
-    position_case ih (k ∷ ks) g h = match_case ih k ks g p.held (key_matches item p k) refl refl h
+        (none_left item held ps direction left out h)
+    next_case ih (k ∷ ks) g h = match_case ih k ks g p.held _ refl refl h

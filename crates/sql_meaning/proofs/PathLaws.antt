@@ -5,34 +5,40 @@ use Rattle.std.proofs.Common.{◌≡◌, ℕ, false, List, Option, ◌∙◌, �
 use Rattle.std.proofs.Common.{slice_get, ◌∷◌, refl, ap}
 use Rattle.list_laws.specs.Nest.{place, Agree}
 use Rattle.list_laws.specs.Tally.{SameTally, tally}
-use Rattle.list_laws.specs.FirstComing.{has, IsOnce}
+use Rattle.list_laws.specs.FirstComing.{has}
 use Rattle.list_laws.proofs.Lists.{all_map, all_both}
 use Rattle.list_laws.proofs.Unions.{has_used}
 use Rattle.list_laws.proofs.Permutations.{IsPermutation-from_tally}
-use Rattle.list_laws.proofs.Orders.{SameTally-sort_by, Ascends-sort_by}
+use Rattle.list_laws.proofs.Orders.{Ascends-sort_by}
+use Rattle.list_laws.proofs.Permuted.{IsPermutation-sort_by}
 use Rattle.sql_meaning.specs.Values.{Value}
 use Rattle.sql_meaning.specs.Rows.{Row, Assignment}
 use Rattle.sql_meaning.specs.Schemas.{RisingRows, Schema, AliasHolds}
 use Rattle.sql_meaning.specs.Paths.{Path, form_of, path_list, walk, is_union, TableScan, carried}
 use Rattle.sql_meaning.specs.Paths.{Union, Paths, same_rowid, RowidEq, RowidRange, IndexScan}
 use Rattle.sql_meaning.specs.Paths.{IndexSeek}
-use Rattle.sql_meaning.specs.Terms.{Term, terms_true, FormCarries}
+use Rattle.sql_meaning.specs.Terms.{Term, terms_true, term_holds, FormCarries}
 use Rattle.sql_meaning.specs.Evaluation.{holds}
 use Rattle.sql_meaning.specs.Statements.{Conjunct, Bound, has_number, FitsStatement, item_alias}
 use Rattle.sql_meaning.specs.Statements.{item_rows}
-use Rattle.sql_meaning.specs.UsedTerms.{AllOf, used_holds, KeysPlaced, IsTerm, Consumes, AnyOf}
+use Rattle.sql_meaning.specs.UsedTerms.{AllOf, AreUsable, IsTerm, Consumes, AnyOf}
 use Rattle.sql_meaning.specs.UsedTerms.{BranchesCarry, UsedPlaced, IsOrTerm, PathCarries}
-use Rattle.sql_meaning.specs.IndexLists.{index_entries, entry_cmp}
+use Rattle.sql_meaning.specs.IndexLists.{entry_cmp}
 use Rattle.sql_meaning.specs.PathLaws.{IndexListsAreSorted, WalksAreFilters, ConsumedConjunctsHold}
 use Rattle.sql_meaning.specs.PathLaws.{UnionsHaveEachRowOnce, UnionsMissNoRow}
 use Rattle.sql_meaning.proofs.Paths.{walk_is, all_list, all_walk, walk_same, same_rowid_equiv}
 use Rattle.sql_meaning.proofs.Paths.{entry_cmp_total, rows_once}
 use Rattle.sql_meaning.proofs.Offers.{filter_on, plain_true, terms_placed, carried_true, used_looks}
+use Rattle.sql_meaning.proofs.Offers.{used_placed}
+use Rattle.sql_meaning.proofs.LikeTerms.{HasNoneMisplaced}
+use Rattle.sql_meaning.proofs.PassingTerms.{used_are}
 use Rattle.sql_meaning.proofs.TermsHold.{consumed_holds, or_holds}
 use Rattle.sql_meaning.proofs.Rises.{walk_carried}
 use Rattle.sql_meaning.proofs.Databases.{database_for}
 use Rattle.sql_meaning.proofs.Equals.{row_eq, row_true, row_itself}
 use Rattle.sql_meaning.proofs.Links.{all_at}
+use Rattle.list_laws.proofs.Unions.{IsOnce}
+use Rattle.sql_meaning.proofs.UsedTerms.{used_holds}
 
 -- the walk of a path that carries these terms is the filter of its list by them
 pub path_lemma : (schema : Schema) (params : List Value) (alias : Option ℕ) (path : Path)
@@ -53,7 +59,7 @@ pub consumed_on_walk : (schema : Schema) (bound : Bound) (params : List Value) (
     (number : ℕ) (c : Conjunct)
     → RisingRows rows → AllByRecursion (AliasHolds alias) rows → is_union path ≡ false
     → FormCarries alias (form_of schema path) ts → has_number item placed ≡ false
-    → item < length env → AllByRecursion (KeysPlaced placed) ts
+    → item < length env → AreUsable placed ts
     → AllByRecursion (IsTerm schema bound item) ts → Consumes (AllOf ts) number
     → slice_get bound.conjuncts number ≡ Some c
     → AllByRecursion (λ row. holds (place env item (Some row)) params c.expr ≡ true)
@@ -69,7 +75,8 @@ consumed_on_walk schema bound params alias path rows placed item env ts number c
     ∙ k.0 in
     let r =
     consumed_holds schema bound params item (place env item (Some row))
-    (AllOf ts) number comes consumes used in
+    (term_holds (place env item (Some row)) params item) (λ t n e h. h) (AllOf ts) number comes
+    consumes (sym (used_are (place env item (Some row)) params item (AllOf ts)) ∙ used) in
     subst (λ (z : Conjunct). holds (place env item (Some row)) params z.expr ≡ true)
     (same r.0 c (sym r.1 ∙ is)) r.3)
     (known (walk schema params path rows env)
@@ -91,18 +98,22 @@ pub union_has : (schema : Schema) (bound : Bound) (params : List Value) (alias :
     (branches : Paths) (rows : List Row) (placed : List ℕ) (item : ℕ) (env : Assignment)
     (tss : List (List Term)) (o : IsOrTerm schema bound item tss) (row : Row) (choice : Assignment)
     → FitsStatement schema bound → RisingRows rows → AliasHolds alias row
-    → BranchesCarry schema alias branches tss → has_number item placed ≡ false → item < length env
+    → HasNoneMisplaced schema bound.items item row → BranchesCarry schema alias branches tss
+    → has_number item placed ≡ false → item < length env
     → UsedPlaced placed (AnyOf tss) → Agree (item ∷ placed) (place env item (Some row)) choice
     → holds choice params o.conjunct.expr ≡ true → IsOnce same_rowid rows row
     → has same_rowid (walk schema params (Union branches) rows env) row ≡ true
 union_has schema bound params alias branches rows placed item env tss o row choice fits rising
-    aliased carries h lt keys agrees true_there once =
+    aliased good carries h lt keys agrees true_there once =
     has_used same_rowid_equiv rows (walk schema params (Union branches) rows env)
     (carried schema params (Union branches) env) row once
     (walk_same schema params (Union branches) rows env rising)
     ∙ carried_true schema params alias (Union branches) placed item env row
     (AnyOf tss) carries aliased h lt keys
-    ∙ sym (used_looks params item placed (AnyOf tss) keys (place env item (Some row)) choice agrees)
+    ∙ used_placed schema bound params placed item env row (AnyOf tss) lt keys good
+    ∙ sym
+    (used_looks schema bound params item placed (AnyOf tss) keys (place env item (Some row)) choice
+    agrees)
     ∙ or_holds schema bound params item choice tss o fits true_there
 
 all_of_carries : (schema : Schema) (alias : Option ℕ) (path : Path) (ts : List Term)
@@ -121,7 +132,7 @@ permutes = IsPermutation-from_tally row_eq row_true row_itself
 
 pub index_lists_are_sorted : IndexListsAreSorted
 index_lists_are_sorted = λ columns rows. (
-  permutes (index_entries columns rows) rows (SameTally-sort_by (entry_cmp columns) rows),
+  IsPermutation-sort_by (entry_cmp columns) rows,
   Ascends-sort_by (entry_cmp_total columns) rows,
 )
 
@@ -164,25 +175,16 @@ misses_case : (schema : Schema) (bound : Bound) (params : List Value) (path : Pa
     (rows : List Row) (placed : List ℕ) (item : ℕ) (env : Assignment) (tss : List (List Term))
     (o : IsOrTerm schema bound item tss) (row : Row) (choice : Assignment)
     → FitsStatement schema bound → RisingRows rows → AliasHolds (item_alias schema bound item) row
+    → HasNoneMisplaced schema bound.items item row
     → PathCarries schema (item_alias schema bound item) path (AnyOf tss)
     → has_number item placed ≡ false → item < length env → UsedPlaced placed (AnyOf tss)
     → Agree (item ∷ placed) (place env item (Some row)) choice
     → holds choice params o.conjunct.expr ≡ true → IsOnce same_rowid rows row
     → has same_rowid (walk schema params path rows env) row ≡ true
-misses_case schema bound params (Union branches) rows placed item env tss o row choice f r a c =
+misses_case schema bound params (Union branches) rows placed item env tss o row choice f r a g c =
     union_has schema bound params (item_alias schema bound item) branches rows placed item env tss
-    o row choice f r a c
-misses_case schema bound params TableScan rows placed item env tss o row choice f r a c = absurd c
-misses_case schema bound params (RowidEq part) rows placed item env tss o row choice f r a c =
-    absurd c
-misses_case schema bound params (RowidRange low high) rows placed item env tss o row choice f r a c
-    =
-    absurd c
-misses_case schema bound params (IndexScan index) rows placed item env tss o row choice f r a c =
-    absurd c
-misses_case schema bound params (IndexSeek i eqs low high) rows placed item env tss o row choice f r
-    a c =
-    absurd c
+    o row choice f r a g c
+misses_case schema bound params path rows placed item env tss o row choice f r a g c = absurd c
 
 pub unions_miss_no_row : UnionsMissNoRow
 unions_miss_no_row =
@@ -191,6 +193,7 @@ unions_miss_no_row =
     let here = database_for schema bound database valid in
     let rows = item_rows database bound loop.item in
     misses_case schema bound params loop.path rows placed loop.item env tss o row choice offer.fits
-    (here.rising loop.item) (all_at _ rows number row (here.aliased loop.item) at) offer.carries
+    (here.rising loop.item) (all_at _ rows number row (here.aliased loop.item) at)
+    (all_at _ rows number row (here.texts loop.item) at) offer.carries
     offer.unplaced inside offer.keys agrees h
     (all_at _ rows number row (rows_once rows (here.rising loop.item)) at)

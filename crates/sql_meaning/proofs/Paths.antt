@@ -10,7 +10,7 @@ use Rattle.std.proofs.lemmas.Cmp.{on_total, then_total, int_cmp_total, eq_by_cmp
 use Rattle.std.proofs.lemmas.List.Elements.{filter_agree}
 use Rattle.list_laws.specs.Order.{Ascends, sort_by}
 use Rattle.list_laws.specs.Tally.{SameTally, tally}
-use Rattle.list_laws.specs.FirstComing.{IsOnce, keep_first}
+use Rattle.list_laws.specs.FirstComing.{keep_first}
 use Rattle.list_laws.proofs.Lists.{all_map, all_filter, all_append}
 use Rattle.list_laws.proofs.Orders.{Ascends-sort_by, SameTally-sort_by, all_insert}
 use Rattle.list_laws.proofs.Tallies.{SameTally-refl, SameTally-filter}
@@ -27,6 +27,7 @@ use Rattle.sql_meaning.specs.Paths.{form_of, path_list, walk, carried, is_union,
 use Rattle.sql_meaning.specs.Paths.{Then, same_rowid, walks, any_carried}
 use Rattle.sql_meaning.proofs.Seeks.{column_cmp_total, seek_is}
 use Rattle.sql_meaning.proofs.Scaled.{scaled_cmp}
+use Rattle.list_laws.proofs.Unions.{IsOnce}
 
 pub entry_cmp_total : (ss : List SortColumn) → IsTotalOrder (entry_cmp ss)
 entry_cmp_total [] = on_total (λ row. row.rowid) int_cmp_total

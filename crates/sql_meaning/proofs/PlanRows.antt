@@ -3,11 +3,11 @@ use Rattle.std.specs.List.{slice_get, AllByRecursion}
 use Rattle.std.proofs.Common.{◌≡◌, ℕ, Bool, true, false, cond, not, List, refl, ap, sym, ◌∙◌, []}
 use Rattle.std.proofs.Common.{◌∷◌, Option, Some, None, ◌≢◌, suc, zero, subst, ◌+◌, ◌≤◌, arith, ◌<◌}
 use Rattle.std.proofs.Common.{length}
+use Rattle.std.specs.List.Sorted.{IsPermutation}
 use Rattle.std.proofs.lemmas.Bool.{eqb-true}
 use Rattle.std.proofs.lemmas.List.{length-replicate}
 use Rattle.std.proofs.lemmas.List.Elements.{filter_agree}
 use Rattle.list_laws.specs.Nest.{Distinct, Inside, product, step_items, Rearranges}
-use Rattle.list_laws.specs.Tally.{tally, SameTally}
 use Rattle.list_laws.proofs.Bools.{cond_same, or_cases}
 use Rattle.list_laws.proofs.Lists.{all_from_at, all_map}
 use Rattle.list_laws.proofs.Nests.{join_law, distinct_reorders}
@@ -17,13 +17,13 @@ use Rattle.sql_meaning.specs.Schemas.{Schema, Database}
 use Rattle.sql_meaning.specs.Statements.{Bound, is_left, owned_by, is_common, chosen_hold}
 use Rattle.sql_meaning.specs.Statements.{has_number, no_owner, Conjunct, numbers_from, no_rows}
 use Rattle.sql_meaning.specs.Statements.{choices, statement_rows}
-use Rattle.sql_meaning.specs.Plans.{Loop, steps_of, consumed_by, Plan, always, plan_walks}
+use Rattle.sql_meaning.specs.Plans.{Loop, steps_of, consumed_by, Plan, plan_walks}
 use Rattle.sql_meaning.specs.UsedTerms.{Used, Consumes}
 use Rattle.sql_meaning.specs.Offers.{AreOffers, loop_items, FitsOffers}
 use Rattle.sql_meaning.specs.Conjuncts.{may_serve}
 use Rattle.sql_meaning.proofs.Databases.{IsDatabase}
-use Rattle.sql_meaning.proofs.KeptLoops.{uses, Ours, are_steps}
-use Rattle.sql_meaning.proofs.Plans.{has_all, nested_used, steps_items}
+use Rattle.sql_meaning.proofs.KeptLoops.{asked_by, Ours, are_steps}
+use Rattle.sql_meaning.proofs.Plans.{has_all, steps_items}
 use Rattle.sql_meaning.proofs.Terms.{some_is}
 use Rattle.sql_meaning.proofs.Means.{sound, has_append, consumed_served, settles}
 
@@ -45,19 +45,20 @@ consumed_at (l ∷ ls) number h =
     (sym (has_append number l.consumed (consumed_by ls)) ∙ h)
 
 offer_served : (schema : Schema) (bound : Bound) (placed : List ℕ) (loops : List Loop)
-    (used : Loop → Used) (at : ℕ) (l : Loop) (number : ℕ) (c : Conjunct)
+    (used : List Used) (at : ℕ) (l : Loop) (number : ℕ) (c : Conjunct)
     → AreOffers schema bound placed loops used → slice_get loops at ≡ Some l
     → has_number number l.consumed ≡ true → slice_get bound.conjuncts number ≡ Some c
     → may_serve bound l.item c ≡ true
 offer_served schema bound placed [] used at l number c o e h is = absurd (cc)
-offer_served schema bound placed (m ∷ ms) used zero l number c o e h is =
+offer_served schema bound placed (m ∷ ms) [] at l number c o e h is = absurd o
+offer_served schema bound placed (m ∷ ms) (u ∷ us) zero l number c o e h is =
     let same = some_is m l e in
     subst (λ (z : Loop). may_serve bound z.item c ≡ true) same
-    (consumed_served schema bound m.item (used m) number c o.0.comes
-    (has_all (Consumes (used m)) m.consumed number o.0.consumes
+    (consumed_served schema bound m.item u number c o.0.comes
+    (has_all (Consumes u) m.consumed number o.0.consumes
     (ap (λ (z : Loop). has_number number z.consumed) same ∙ h)) is)
-offer_served schema bound placed (m ∷ ms) used (suc at) l number c o e h is =
-    offer_served schema bound (m.item ∷ placed) ms used at l number c o.1 e h is
+offer_served schema bound placed (m ∷ ms) (u ∷ us) (suc at) l number c o e h is =
+    offer_served schema bound (m.item ∷ placed) ms us at l number c o.1 e h is
 
 not_there : (ls : List Loop) (item k : ℕ) (m : Loop)
     → AllByRecursion (λ j. j ≢ item) (loop_items ls) → slice_get ls k ≡ Some m → m.item ≡ item → ⊥
@@ -87,7 +88,7 @@ served_owner bound item owner None e b h = absurd (cc)
 served_owner bound item owner (Some p) e true h = some_is owner p (sym e) ∙ eqb-true p item h
 served_owner bound item owner (Some p) e false h = absurd (cc)
 
-all_ours : (schema : Schema) (bound : Bound) (loops : List Loop) (used : Loop → Used)
+all_ours : (schema : Schema) (bound : Bound) (loops : List Loop) (used : List Used)
     → AreOffers schema bound [] loops used → Distinct (loop_items loops)
     → AllByRecursion (Ours bound (consumed_by loops)) loops
 all_ours schema bound loops used o d =
@@ -141,39 +142,34 @@ free_choices database bound params i false h xs ys zs = refl
 -- the loops of a plan that are offers find the statement's rows, each as often
 pub plan_rows : (schema : Schema) (plan : Plan) → FitsOffers schema plan
     → (database : Database) → IsDatabase schema plan.bound database → (params : List Value)
-    → SameTally (plan_walks schema database plan params) (statement_rows plan.bound database params)
+    → IsPermutation (plan_walks schema database plan params)
+    (statement_rows plan.bound database params)
 plan_rows schema plan fits database valid params =
     let steps =
-    steps_of schema database plan.bound params (consumed_by plan.loops)
-    (uses plan.bound params fits.used) [] plan.loops in
+    steps_of schema database plan.bound params (consumed_by plan.loops) [] plan.loops in
     let once : Rearranges (λ i. not (is_left plan.bound i)) (step_items steps)
     (numbers_from 0 (length plan.bound.items)) =
     subst
     (λ (is : List ℕ). Rearranges (λ i. not (is_left plan.bound i)) is
     (numbers_from 0 (length plan.bound.items)))
     (sym
-    (steps_items schema database plan.bound params (consumed_by plan.loops)
-    (uses plan.bound params fits.used) [] plan.loops)) fits.once in
-    record {
-      each = λ f.
-          ap (tally f)
-          (nested_used schema database plan.bound params (consumed_by plan.loops) (λ l. always)
-          (uses plan.bound params fits.used) [] plan.loops (no_rows plan.bound))
-          ∙ (join_law (choices database plan.bound params)
-          (λ i h env a. free_choices database plan.bound params i (is_left plan.bound i) h _ _ _)
-          (chosen_hold is_common params plan.bound.conjuncts ∷ []) steps
-          (numbers_from 0 (length plan.bound.items)) (no_rows plan.bound) once
-          (numbers_inside plan.bound) (numbers_distinct 0 (length plan.bound.items))
-          (are_steps schema database plan.bound params
-          (consumed_by plan.loops) [] plan.loops fits.used valid fits.owners fits.offered
-          (all_ours schema plan.bound plan.loops fits.used fits.offered
-          (distinct_reorders _ _ fits.once (numbers_distinct 0 (length plan.bound.items)))))
-          (λ a k. cond_same _ ∙ settles schema database plan params fits a k)
-          (λ a h. sound schema database plan.bound params
-          (consumed_by plan.loops) [] plan.loops fits.used a fits.offered
-          (sym (cond_same _) ∙ h))).each f
-          ∙ ap (tally f)
-          (filter_agree _ _ (λ a. cond_same (chosen_hold is_common params plan.bound.conjuncts a))
-          (product (choices database plan.bound params) (numbers_from 0 (length plan.bound.items))
-          (no_rows plan.bound)));
-    }
+    (steps_items schema database plan.bound params (consumed_by plan.loops) [] plan.loops))
+    fits.once in
+    subst (IsPermutation (plan_walks schema database plan params))
+    (filter_agree _ _ (λ a. cond_same (chosen_hold is_common params plan.bound.conjuncts a))
+    (product (choices database plan.bound params) (numbers_from 0 (length plan.bound.items))
+    (no_rows plan.bound)))
+    (join_law (choices database plan.bound params)
+    (λ i h env a. free_choices database plan.bound params i (is_left plan.bound i) h _ _ _)
+    (chosen_hold is_common params plan.bound.conjuncts ∷ [])
+    (asked_by schema plan.bound params plan.loops fits.used) steps
+    (numbers_from 0 (length plan.bound.items)) (no_rows plan.bound) once
+    (numbers_inside plan.bound) (numbers_distinct 0 (length plan.bound.items))
+    (are_steps schema database plan.bound params
+    (consumed_by plan.loops) [] plan.loops fits.used valid fits.owners fits.offered
+    (all_ours schema plan.bound plan.loops fits.used fits.offered
+    (distinct_reorders _ _ fits.once (numbers_distinct 0 (length plan.bound.items)))))
+    (λ a k. cond_same _ ∙ settles schema database plan params fits a k)
+    (λ a h. sound schema database plan.bound params
+    (consumed_by plan.loops) [] plan.loops fits.used a fits.offered
+    (sym (cond_same _) ∙ h)))

@@ -1,13 +1,13 @@
 -- What a loop tests looks at placed items alone.
 use Rattle.std.specs.List.{AllByRecursion, slice_get, filter}
-use Rattle.std.proofs.Common.{◌≡◌, ℕ, Bool, cond, List, [], ◌∷◌, refl, ap, true, false, not, ◌||◌}
+use Rattle.std.proofs.Common.{◌≡◌, ℕ, Bool, List, [], ◌∷◌, refl, ap, true, false, not, ◌||◌}
 use Rattle.std.proofs.Common.{◌+◌, ◌&&◌, ap₂, Option, Some, None, suc, zero, ◌∙◌, subst, arith, sym}
 use Rattle.std.proofs.Common.{◌==◌}
 use Rattle.std.proofs.lemmas.Bool.{eqb-true}
-use Rattle.list_laws.specs.Nest.{place, nested, step_items, Agree, Looks}
+use Rattle.list_laws.specs.Nest.{step_items, Agree, Looks}
 use Rattle.list_laws.specs.Tally.{tally, SameTally}
 use Rattle.list_laws.proofs.Bools.{or_cases, and_left, and_right, both_true}
-use Rattle.list_laws.proofs.Lists.{flat_map_same, all_always, all_map}
+use Rattle.list_laws.proofs.Lists.{all_always, all_map}
 use Rattle.list_laws.proofs.Tallies.{SameTally-refl}
 use Rattle.sql_meaning.specs.Values.{Value}
 use Rattle.sql_meaning.specs.Truth.{truth3}
@@ -15,7 +15,7 @@ use Rattle.sql_meaning.specs.Rows.{Row, Assignment}
 use Rattle.sql_meaning.specs.Schemas.{Schema, Database}
 use Rattle.sql_meaning.specs.Statements.{Bound, is_common, is_empty, has_number, Conjunct, no_owner}
 use Rattle.sql_meaning.specs.Statements.{chosen_hold, is_left, owned_by, OwnersAreLeft, or_missing}
-use Rattle.sql_meaning.specs.Plans.{Loop, loop_walk, steps_of}
+use Rattle.sql_meaning.specs.Plans.{Loop, steps_of}
 use Rattle.sql_meaning.specs.Conjuncts.{level_test, common_first, first_at, first_by}
 use Rattle.sql_meaning.specs.Offers.{loop_items}
 use Rattle.sql_meaning.specs.Expressions.{names}
@@ -25,30 +25,13 @@ use Rattle.sql_meaning.proofs.TermsHold.{unless, rest_of}
 use Rattle.sql_meaning.proofs.Evaluation.{ev_same}
 use Rattle.sql_meaning.proofs.Terms.{some_is}
 
--- `used` plays no part in the nested walks
-pub nested_used : (schema : Schema) (database : Database) (bound : Bound)
-    (params : List Value) (consumed : List ℕ) (u v : Loop → Assignment → Bool) (placed : List ℕ)
-    (loops : List Loop) (env : Assignment)
-    → nested (steps_of schema database bound params consumed u placed loops) env
-    ≡ nested (steps_of schema database bound params consumed v placed loops) env
-nested_used schema database bound params consumed u v placed [] env = refl
-nested_used schema database bound params consumed u v placed (l ∷ ls) env =
-    flat_map_same _ _ (loop_walk schema database bound params consumed placed l env)
-    (λ x. ap
-    (λ zs. cond
-    (level_test is_common params consumed placed l.item 0 bound.conjuncts (place env l.item x)) zs
-    [])
-    (nested_used schema database bound params consumed u v (l.item ∷ placed) ls
-    (place env l.item x)))
-
 pub steps_items : (schema : Schema) (database : Database) (bound : Bound)
-    (params : List Value) (consumed : List ℕ) (u : Loop → Assignment → Bool) (placed : List ℕ)
-    (loops : List Loop)
-    → step_items (steps_of schema database bound params consumed u placed loops) ≡ loop_items loops
-steps_items schema database bound params consumed u placed [] = refl
-steps_items schema database bound params consumed u placed (l ∷ ls) =
+    (params : List Value) (consumed placed : List ℕ) (loops : List Loop)
+    → step_items (steps_of schema database bound params consumed placed loops) ≡ loop_items loops
+steps_items schema database bound params consumed placed [] = refl
+steps_items schema database bound params consumed placed (l ∷ ls) =
     ap (λ is. l.item ∷ is)
-    (steps_items schema database bound params consumed u (l.item ∷ placed) ls)
+    (steps_items schema database bound params consumed (l.item ∷ placed) ls)
 
 -- a test that is not due, or that looks at the placed items and the loop's own alone
 due_case : (due h k : Bool) → (due ≡ true → h ≡ k) → (not due || h) ≡ (not due || k)

@@ -9,7 +9,7 @@ use Rattle.std.proofs.Common.{ℕ, Option, Some, None, sym, [], ◌∷◌, ap₂
 use Rattle.std.proofs.lemmas.Cmp.{int_cmp_total}
 use Rattle.std.proofs.lemmas.Bool.{eqb-true}
 use Rattle.std.proofs.lemmas.Grind.{reverse_onto}
-use Rattle.list_laws.specs.Order.{insert_by, sort_by, Ascends, RisesStrictly}
+use Rattle.list_laws.specs.Order.{insert_by, sort_by, Ascends}
 use Rattle.list_laws.proofs.Orders.{all_insert, Ascends-sort_by}
 use Rattle.list_laws.proofs.Unions.{AreApart}
 use Rattle.list_laws.proofs.Lists.{all_both, all_map, all_filter, all_append, filter_all}
@@ -29,6 +29,7 @@ use Rattle.sql_meaning.proofs.Paths.{same_rowid_equiv, rising_apart, rowid_less,
 use Rattle.sql_meaning.proofs.Paths.{entry_cmp_total, all_list, walk_is}
 use Rattle.sql_meaning.proofs.Seeks.{is_eq_reverse}
 use Rattle.sql_meaning.proofs.Scaled.{scaled_cmp}
+use Rattle.list_laws.specs.Order.{RisesStrictly}
 
 -- two rows by a position, in the walk's direction
 abbrev pub pos_cmp : Bool → Position → Row → Row → Ordering

@@ -9,7 +9,6 @@ use Rattle.std.proofs.Common.{◌∷◌, ◌∙◌, ◌&&◌, not, arith, sym, O
 use Rattle.std.proofs.lemmas.Cmp.{back_total}
 use Rattle.std.proofs.lemmas.List.Elements.{filter_agree}
 use Rattle.list_laws.specs.Order.{Ascends, sort_by}
-use Rattle.list_laws.specs.FirstComing.{ties_any}
 use Rattle.list_laws.proofs.Bools.{or_false_right, or_false_left}
 use Rattle.list_laws.proofs.Orders.{not_below_up, above_up, Rises-from_order, stretch_at}
 use Rattle.list_laws.proofs.Orders.{Ascends-at, Ascends-first, Ascends-sort_by}
@@ -27,6 +26,7 @@ use Rattle.sql_meaning.specs.Walks.{End, is_below, is_above, range_walk, bounds_
 use Rattle.sql_meaning.specs.Walks.{high_holds, key_stretch, walked_keys, Part, One, Many, NullPart}
 use Rattle.sql_meaning.specs.Walks.{seek, parts_hold}
 use Rattle.sql_meaning.proofs.Order.{value_cmp_total}
+use Rattle.list_laws.proofs.FirstComings.{ties_any}
 
 pub directed_total : (falling : Bool) {cmp : Value → Value → Ordering} → IsTotalOrder cmp
     → IsTotalOrder (directed falling cmp)

@@ -13,14 +13,15 @@ use Rattle.sql_meaning.specs.Expressions.{IsNull, Any, BExprs, Nil, More, names,
 use Rattle.sql_meaning.specs.Expressions.{ColumnRef, plain_column, bare_column}
 use Rattle.sql_meaning.specs.Schemas.{Schema}
 use Rattle.sql_meaning.specs.Paths.{KeyExpr}
-use Rattle.sql_meaning.specs.Terms.{TermKind, Equals, keys_of, kind_of, entry_keys, SideServes}
+use Rattle.sql_meaning.specs.Terms.{TermKind, Equals, term_keys, kind_of, entry_keys, SideServes}
 use Rattle.sql_meaning.specs.Terms.{ComparisonServes, AreEqualities, Serves, Term}
 use Rattle.sql_meaning.specs.Statements.{Bound, Conjunct, has_number, all_in}
 use Rattle.sql_meaning.specs.Plans.{Loop}
-use Rattle.sql_meaning.specs.UsedTerms.{Used, AllOf, AnyOf, Consumes, KeysPlaced, IsTerm}
+use Rattle.sql_meaning.specs.UsedTerms.{Used, AllOf, AnyOf, Consumes, is_usable, IsTerm}
 use Rattle.sql_meaning.specs.Offers.{IsOffer}
 use Rattle.sql_meaning.proofs.Terms.{some_is}
 use Rattle.sql_meaning.proofs.Links.{all_at}
+use Rattle.sql_meaning.proofs.Offers.{usable_names}
 use Rattle.sql_meaning.proofs.Plans.{has_all}
 use Rattle.sql_meaning.proofs.Means.{has_append}
 
@@ -86,18 +87,18 @@ from_right item placed ns h = record {
 }
 
 kind_keys : (op : Op) (key : KeyExpr) (kind : TermKind) → kind_of op key ≡ Some kind
-    → keys_of kind ≡ key ∷ []
-kind_keys IsEqual key kind h = sym (ap keys_of (some_is _ kind h))
+    → term_keys kind ≡ key ∷ []
+kind_keys IsEqual key kind h = sym (ap term_keys (some_is _ kind h))
 kind_keys IsUnequal key kind h = absurd (cc)
-kind_keys IsBelow key kind h = sym (ap keys_of (some_is _ kind h))
-kind_keys IsAtMost key kind h = sym (ap keys_of (some_is _ kind h))
-kind_keys IsAbove key kind h = sym (ap keys_of (some_is _ kind h))
-kind_keys IsAtLeast key kind h = sym (ap keys_of (some_is _ kind h))
+kind_keys IsBelow key kind h = sym (ap term_keys (some_is _ kind h))
+kind_keys IsAtMost key kind h = sym (ap term_keys (some_is _ kind h))
+kind_keys IsAbove key kind h = sym (ap term_keys (some_is _ kind h))
+kind_keys IsAtLeast key kind h = sym (ap term_keys (some_is _ kind h))
 
 other_placed : {item : ℕ} {site : Site} {kind : TermKind} {op : Op} {own other : BExpr}
     {own_conversion other_conversion : Option Affinity} (placed : List ℕ)
     → SideServes item site kind op own other own_conversion other_conversion
-    → KeysIn placed (keys_of kind)
+    → KeysIn placed (term_keys kind)
     → AllByRecursion (λ i. has_number i placed ≡ true) (names other)
 other_placed {kind} {op} {other} {other_conversion} placed s k =
     (subst (KeysIn placed)
@@ -105,7 +106,7 @@ other_placed {kind} {op} {other} {other_conversion} placed s k =
 
 pub comparison_names : (item : ℕ) (site : Site) (collation : Collation) (kind : TermKind)
     (placed : List ℕ) (e : BExpr)
-    → ComparisonServes item site collation kind e → KeysIn placed (keys_of kind)
+    → ComparisonServes item site collation kind e → KeysIn placed (term_keys kind)
     → NamesItem item placed (names e)
 comparison_names item site collation kind placed (Cmp op left right lc rc c) (same, inl s) k =
     subst (λ (ns : List ℕ). NamesItem item placed (ns ++ names right))
@@ -149,7 +150,7 @@ equalities_there item site collation placed (More e es) (key ∷ keys) h k some 
 
 pub served_names : (item : ℕ) (site : Site) (collation : Collation) (kind : TermKind)
     (placed : List ℕ) (e : BExpr)
-    → Serves item site collation kind e → KeysIn placed (keys_of kind)
+    → Serves item site collation kind e → KeysIn placed (term_keys kind)
     → NamesItem item placed (names e)
 served_names item site collation kind placed (Cmp op left right lc rc c) h k =
     comparison_names item site collation kind placed (Cmp op left right lc rc c) h k
@@ -158,11 +159,11 @@ served_names item site collation kind placed (OneOf negated own entries conversi
     (sym (bare_names own _ h.2.is_column))
     (from_left item placed (all_names entries)
     (entries_placed placed conversion entries
-    (subst (λ (z : TermKind). KeysIn placed (keys_of z)) h.2.says k)))
+    (subst (λ (z : TermKind). KeysIn placed (term_keys z)) h.2.says k)))
 served_names item site collation kind placed (IsNull negated own) h k =
     subst (NamesItem item placed) (sym (bare_names own _ h.1)) (from_left item placed [] tt)
 served_names item site collation kind placed (Any es) h k =
-    let keys = subst (λ (z : TermKind). KeysIn placed (keys_of z)) h.says k in
+    let keys = subst (λ (z : TermKind). KeysIn placed (term_keys z)) h.says k in
     record {
       there = equalities_there item site collation placed es h.keys h.equalities keys h.some;
       inside = equalities_inside item site collation placed es h.keys h.equalities keys;
@@ -177,16 +178,17 @@ pub consumed_names : (schema : Schema) (bound : Bound) (placed : List ℕ) (loop
 consumed_names schema bound placed loop (AllOf ts) number c o h is =
     let k = has_all (Consumes (AllOf ts)) loop.consumed number o.consumes h in
     direct k.1 k.3 (all_at (IsTerm schema bound loop.item) ts k.0 k.1 o.comes k.2)
-    (all_at (KeysPlaced placed) ts k.0 k.1 o.keys k.2)
+    (all_at (λ t. is_usable placed t ≡ true) ts k.0 k.1 o.keys k.2)
   where
     direct : (t : Term) → t.conjunct ≡ Some number → IsTerm schema bound loop.item t
-        → KeysPlaced placed t → NamesItem loop.item placed (names c.expr)
+        → is_usable placed t ≡ true → NamesItem loop.item placed (names c.expr)
     direct t numbered (inl d) keys =
         let same : d.number ≡ number = some_is _ _ (sym d.numbered ∙ numbered) in
         let conjunct : d.conjunct ≡ c =
         some_is _ _ (sym d.is ∙ ap (slice_get bound.conjuncts) same ∙ is) in
         subst (λ (z : Conjunct). NamesItem loop.item placed (names z.expr)) conjunct
-        (served_names loop.item t.column t.collation t.kind placed d.conjunct.expr d.serves keys)
+        (served_names loop.item t.column t.collation t.kind placed d.conjunct.expr d.serves
+        (usable_names placed (term_keys t.kind) keys))
     direct t numbered (inr (none, d)) keys =
         absurd (let no : None ≡ Some number = sym none ∙ numbered in cc)
 consumed_names schema bound placed loop (AnyOf tss) number c o h is =

@@ -1,5 +1,6 @@
 -- What the function answers serves the column.
 use Rattle.std.specs.List.{AllByRecursion}
+use Rattle.std.specs.Option.{option_or}
 use Rattle.std.proofs.Common.{◌≡◌, true, Option, Some, None, refl, Bool, false, not, ◌≢◌, ℕ, ◌||◌}
 use Rattle.std.proofs.Common.{◌==◌, List, ◌∷◌, sym, [], cond, ◌&&◌, ap, ◌∙◌, ◌⊎◌, inl, inr, subst}
 use Rattle.std.proofs.Common.{slice_get, suc, ◌+◌, arith}
@@ -7,13 +8,13 @@ use Rattle.std.proofs.lemmas.Bool.{eq-eqb, eqb-true}
 use Rattle.list_laws.proofs.Bools.{not_true, and_left, and_right}
 use Rattle.list_laws.proofs.Lists.{all_append}
 use Rattle.sql_meaning.specs.Values.{Affinity, Collation}
-use Rattle.sql_meaning.specs.Serving.{no_conversion, Served, side_served, served_or}
+use Rattle.sql_meaning.specs.Serving.{no_conversion, Served, side_served}
 use Rattle.sql_meaning.specs.Serving.{comparison_served, equal_key, key_under, keys_or, keys_under}
 use Rattle.sql_meaning.specs.Serving.{within, or_served, null_served, first_served, serving}
 use Rattle.sql_meaning.specs.Serving.{numbered_term, if_allowed, direct_terms}
 use Rattle.sql_meaning.specs.Statements.{has_number, Conjunct, Bound}
-use Rattle.sql_meaning.specs.Expressions.{ColumnRef, Op, BExpr, names, bare_column, Cmp, Lit, Param}
-use Rattle.sql_meaning.specs.Expressions.{Column, Rowid, Plus, Collate, OneOf, IsNull, Not, All}
+use Rattle.sql_meaning.specs.Expressions.{ColumnRef, Op, BExpr, names, bare_column, Cmp}
+use Rattle.sql_meaning.specs.Expressions.{OneOf, IsNull}
 use Rattle.sql_meaning.specs.Expressions.{Any, BExprs, Nil, More, all_names}
 use Rattle.sql_meaning.specs.Terms.{TermKind, kind_of, SideServes, flipped, ComparisonServes}
 use Rattle.sql_meaning.specs.Terms.{Equals, Within, IsNothing, Low, High, AreEqualities, OrServes}
@@ -94,7 +95,7 @@ side_serves item op own other own_conversion other_conversion collation s i = re
   says = i.says;
 }
 
-or_case : (a b : Option Served) (s : Served) → served_or a b ≡ Some s → (a ≡ Some s) ⊎ (b ≡ Some s)
+or_case : (a b : Option Served) (s : Served) → option_or a b ≡ Some s → (a ≡ Some s) ⊎ (b ≡ Some s)
 or_case None b s h = inr h
 or_case (Some t) b s h = inl h
 
@@ -124,17 +125,7 @@ comparison_serves : (item : ℕ) (e : BExpr) (s : Served) → comparison_served 
 comparison_serves item (Cmp op left right left_conversion right_conversion collation) s h =
     comparison_cases item op left right left_conversion right_conversion collation s
     (or_case _ _ s h)
-comparison_serves item (Lit v) s h = absurd (cc)
-comparison_serves item (Param n) s h = absurd (cc)
-comparison_serves item (Column i n) s h = absurd (cc)
-comparison_serves item (Rowid i) s h = absurd (cc)
-comparison_serves item (Plus e) s h = absurd (cc)
-comparison_serves item (Collate e collation) s h = absurd (cc)
-comparison_serves item (OneOf n l es ec collation) s h = absurd (cc)
-comparison_serves item (IsNull n e) s h = absurd (cc)
-comparison_serves item (Not e) s h = absurd (cc)
-comparison_serves item (All es) s h = absurd (cc)
-comparison_serves item (Any es) s h = absurd (cc)
+comparison_serves item e s h = absurd (cc)
 
 -- the key of an equality of this column under this collation
 pub record IsKey (site : Site) (collation : Collation) (o : Option Served) (key : KeyExpr) : Type 0
@@ -279,14 +270,7 @@ serving_is own item (IsNull true e) s h = absurd (cc)
 serving_is own item (IsNull false e) s h =
     let r = null_case own item (bare_column e) s h in (refl, r.0, r.1)
 serving_is own item (Any es) s h = or_is item es (first_served item es) s refl h
-serving_is own item (Lit v) s h = absurd (cc)
-serving_is own item (Param n) s h = absurd (cc)
-serving_is own item (Column i n) s h = absurd (cc)
-serving_is own item (Rowid i) s h = absurd (cc)
-serving_is own item (Plus e) s h = absurd (cc)
-serving_is own item (Collate e collation) s h = absurd (cc)
-serving_is own item (Not e) s h = absurd (cc)
-serving_is own item (All es) s h = absurd (cc)
+serving_is own item e s h = absurd (cc)
 
 one_direct : (own : Site → Collation) (bound : Bound) (item number : ℕ) (c : Conjunct)
     → slice_get bound.conjuncts number ≡ Some c → (b : Bool) → may_serve bound item c ≡ b

@@ -1,5 +1,6 @@
 -- The function finds the term wherever a conjunct serves a column of the item.
 use Rattle.std.specs.List.{AllByRecursion}
+use Rattle.std.specs.Option.{option_or}
 use Rattle.std.proofs.Common.{◌≡◌, ◌≢◌, ℕ, Bool, true, false, cond, not, ◌&&◌, ◌||◌, ◌==◌, List, []}
 use Rattle.std.proofs.Common.{◌∷◌, Option, Some, None, refl, ap, sym, ◌∙◌, inl, inr, subst}
 use Rattle.std.proofs.lemmas.Bool.{eqb-true, eq-eqb}
@@ -13,7 +14,7 @@ use Rattle.sql_meaning.specs.Terms.{TermKind, Equals, Within, IsNothing, SideSer
 use Rattle.sql_meaning.specs.Terms.{ComparisonServes, AreEqualities, Serves, kind_of}
 use Rattle.sql_meaning.specs.Statements.{has_number}
 use Rattle.sql_meaning.specs.Orders.{same_site, same_collation}
-use Rattle.sql_meaning.specs.Serving.{Served, no_conversion, side_served, served_or}
+use Rattle.sql_meaning.specs.Serving.{Served, no_conversion, side_served}
 use Rattle.sql_meaning.specs.Serving.{comparison_served, equal_key, key_under, keys_or, keys_under}
 use Rattle.sql_meaning.specs.Serving.{within, or_served, first_served, null_served}
 use Rattle.sql_meaning.specs.TermLaws.{FindsTheTerm, ServingIsExact}
@@ -88,13 +89,13 @@ comparison_finds : (item : ℕ) (site : Site) (collation : Collation) (kind : Te
     → ComparisonServes item site collation kind e
     → comparison_served item e ≡ found site collation kind
 comparison_finds item site collation kind (Cmp op left right lc rc c) (same, inl s) =
-    ap (λ (z : Option Served). served_or z
+    ap (λ (z : Option Served). option_or z
     (side_served item (bare_column right) (no_conversion rc && not (has_number item (names left)))
     (kind_of (flipped op) (record { expr = left; conversion = lc })) c))
     (side_finds item site kind op left right lc rc c s)
     ∙ ap (λ z. found site z kind) same
 comparison_finds item site collation kind (Cmp op left right lc rc c) (same, inr s) =
-    ap (λ (z : Option Served). served_or z
+    ap (λ (z : Option Served). option_or z
     (side_served item (bare_column right) (no_conversion rc && not (has_number item (names left)))
     (kind_of (flipped op) (record { expr = left; conversion = lc })) c))
     (none_found item left (bare_column left) _ _ c s.foreign refl)

@@ -1,54 +1,27 @@
--- The columns that are linked, reached by passes over the links.
+-- The columns that are listed as linked with a column are linked with it.
 use Rattle.std.specs.List.{AllByRecursion, filter}
 use Rattle.std.proofs.Common.{◌≡◌, true, ◌==◌, refl, ap₂, ◌≢◌, ℕ, not, List, Bool, false, cond}
 use Rattle.std.proofs.Common.{◌&&◌, [], ◌∷◌, Option, Some, slice_get, None, suc, ◌⊎◌, inl, inr, sym}
-use Rattle.std.proofs.Common.{subst, ◌||◌, zero, length}
+use Rattle.std.proofs.Common.{subst, ◌||◌, zero, length, map, ◌++◌}
+use Rattle.std.specs.Ordering.{eq_by_cmp}
 use Rattle.std.proofs.lemmas.Bool.{eqb-true, eq-eqb}
-use Rattle.list_laws.proofs.Lists.{all_from_at, all_flat_map}
+use Rattle.list_laws.specs.Order.{sort_by}
+use Rattle.list_laws.proofs.Lists.{all_from_at, all_flat_map, all_append, all_filter}
+use Rattle.list_laws.proofs.FirstComings.{all_keep}
 use Rattle.list_laws.proofs.Bools.{and_left, and_right}
-use Rattle.sql_meaning.specs.Values.{Affinity, Integer, Real, Numeric, TextAffinity, BlobAffinity}
+use Rattle.sql_meaning.specs.Values.{Affinity}
 use Rattle.sql_meaning.specs.Values.{Collation}
 use Rattle.sql_meaning.specs.Links.{affinity_class, Linked, link, chain, back}
-use Rattle.sql_meaning.specs.TermLists.{class_number, same_ref, Pair, pair_of, link_pair}
-use Rattle.sql_meaning.specs.TermLists.{link_pairs, has_ref, add_if, extend, reach, ref_cmp}
+use Rattle.sql_meaning.specs.TermLists.{same_ref, Pair, pair_of, link_pair}
+use Rattle.sql_meaning.specs.TermLists.{link_pairs, touches, other_end, visits, visited, ref_cmp}
 use Rattle.sql_meaning.specs.TermLists.{linked_to}
-use Rattle.sql_meaning.specs.Expressions.{ColumnRef, BExpr, IsEqual, Cmp, bare_column, IsUnequal}
-use Rattle.sql_meaning.specs.Expressions.{IsBelow, IsAtMost, IsAbove, IsAtLeast, Lit, Param, Column}
-use Rattle.sql_meaning.specs.Expressions.{Rowid, Plus, Collate, OneOf, IsNull, Not, All, Any}
+use Rattle.sql_meaning.specs.Expressions.{ColumnRef, BExpr, IsEqual, Cmp, bare_column}
 use Rattle.sql_meaning.specs.Orders.{same_site, same_collation}
 use Rattle.sql_meaning.specs.Schemas.{Schema}
 use Rattle.sql_meaning.specs.Items.{Item, own_column}
 use Rattle.sql_meaning.specs.Rows.{Site, AtRowid, AtColumn}
 use Rattle.sql_meaning.proofs.TiedPositions.{site_is, collation_is}
 use Rattle.sql_meaning.proofs.Paths.{all_sort}
-
-class_is : (a b : Affinity) → (class_number a == class_number b) ≡ true
-    → affinity_class a ≡ affinity_class b
-class_is Integer Integer h = refl
-class_is Integer Real h = refl
-class_is Integer Numeric h = refl
-class_is Integer TextAffinity h = absurd (cc)
-class_is Integer BlobAffinity h = absurd (cc)
-class_is Real Integer h = refl
-class_is Real Real h = refl
-class_is Real Numeric h = refl
-class_is Real TextAffinity h = absurd (cc)
-class_is Real BlobAffinity h = absurd (cc)
-class_is Numeric Integer h = refl
-class_is Numeric Real h = refl
-class_is Numeric Numeric h = refl
-class_is Numeric TextAffinity h = absurd (cc)
-class_is Numeric BlobAffinity h = absurd (cc)
-class_is TextAffinity Integer h = absurd (cc)
-class_is TextAffinity Real h = absurd (cc)
-class_is TextAffinity Numeric h = absurd (cc)
-class_is TextAffinity TextAffinity h = refl
-class_is TextAffinity BlobAffinity h = absurd (cc)
-class_is BlobAffinity Integer h = absurd (cc)
-class_is BlobAffinity Real h = absurd (cc)
-class_is BlobAffinity Numeric h = absurd (cc)
-class_is BlobAffinity TextAffinity h = absurd (cc)
-class_is BlobAffinity BlobAffinity h = refl
 
 pub ref_is : (c d : ColumnRef) → same_ref c d ≡ true → c ≡ d
 ref_is c d h =
@@ -69,7 +42,7 @@ pair_case : (schema : Schema) (items : List Item) (es : List BExpr) (number : �
     → (not (c.item == d.item)
     && (same_collation (own_column schema items c).collation collation
     && (same_collation (own_column schema items d).collation collation
-    && (class_number (own_column schema items c).affinity == class_number
+    && (affinity_class (own_column schema items c).affinity == affinity_class
     (own_column schema items d).affinity)))) ≡ b
     → AllByRecursion (AreLinked schema items es) (cond b (record { first = c; second = d } ∷ []) [])
 pair_case schema items es number left right lc rc collation c d at l r false e = tt
@@ -85,21 +58,21 @@ pair_case schema items es number left right lc rc collation c d at l r true e =
             (and_left _
             (same_collation (own_column schema items c).collation collation
             && (same_collation (own_column schema items d).collation collation
-            && (class_number (own_column schema items c).affinity == class_number
+            && (affinity_class (own_column schema items c).affinity == affinity_class
             (own_column schema items d).affinity))) e);
         own_c =
             collation_is _ collation
             (and_left _
             (same_collation (own_column schema items d).collation collation
-            && (class_number (own_column schema items c).affinity == class_number
+            && (affinity_class (own_column schema items c).affinity == affinity_class
             (own_column schema items d).affinity)) rest);
         own_d =
             collation_is _ collation
             (and_left _
-            (class_number (own_column schema items c).affinity == class_number
+            (affinity_class (own_column schema items c).affinity == affinity_class
             (own_column schema items d).affinity) more);
         one_class =
-            class_is _ _
+            eqb-true _ _
             (and_right (same_collation (own_column schema items d).collation collation) _ more);
       }),
       tt,
@@ -121,22 +94,7 @@ link_pair_is : (schema : Schema) (items : List Item) (es : List BExpr) (number :
 link_pair_is schema items es number (Cmp IsEqual left right lc rc collation) at =
     pair_is schema items es number left right lc rc collation at (bare_column left)
     (bare_column right) refl refl
-link_pair_is schema items es number (Cmp IsUnequal left right lc rc collation) at = tt
-link_pair_is schema items es number (Cmp IsBelow left right lc rc collation) at = tt
-link_pair_is schema items es number (Cmp IsAtMost left right lc rc collation) at = tt
-link_pair_is schema items es number (Cmp IsAbove left right lc rc collation) at = tt
-link_pair_is schema items es number (Cmp IsAtLeast left right lc rc collation) at = tt
-link_pair_is schema items es number (Lit v) at = tt
-link_pair_is schema items es number (Param n) at = tt
-link_pair_is schema items es number (Column i n) at = tt
-link_pair_is schema items es number (Rowid i) at = tt
-link_pair_is schema items es number (Plus e) at = tt
-link_pair_is schema items es number (Collate e collation) at = tt
-link_pair_is schema items es number (OneOf n l xs ec collation) at = tt
-link_pair_is schema items es number (IsNull n e) at = tt
-link_pair_is schema items es number (Not e) at = tt
-link_pair_is schema items es number (All xs) at = tt
-link_pair_is schema items es number (Any xs) at = tt
+link_pair_is schema items es number e at = tt
 
 pairs_are : (schema : Schema) (items : List Item) (es : List BExpr)
     → AllByRecursion (AreLinked schema items es) (link_pairs schema items es)
@@ -154,56 +112,51 @@ further schema items es c d e (inl same) l =
     inr (subst (λ (z : ColumnRef). Linked schema items es z e) (sym same) l)
 further schema items es c d e (inr k) l = inr (chain c d e k l)
 
-reached_case : (schema : Schema) (items : List Item) (es : List BExpr) (c d x : ColumnRef)
-    (later : Bool)
-    → Reached schema items es c x → (later ≡ true → Reached schema items es c d) → (b : Bool)
-    → same_ref x d ≡ b → (b || later) ≡ true → Reached schema items es c d
-reached_case schema items es c d x later h ih true s t =
-    subst (Reached schema items es c) (ref_is x d s) h
-reached_case schema items es c d x later h ih false s t = ih t
+-- what links join with a reached column is reached
+end_case : (schema : Schema) (items : List Item) (es : List BExpr) (c d : ColumnRef) (p : Pair)
+    (ps : List Pair)
+    → Reached schema items es c d → Linked schema items es p.first p.second
+    → AllByRecursion (Reached schema items es c) (map (other_end d) ps) → (a b : Bool)
+    → same_ref d p.first ≡ a → same_ref d p.second ≡ b
+    → AllByRecursion (Reached schema items es c) (map (other_end d) (cond (a || b) (p ∷ ps) ps))
+end_case schema items es c d p ps r l h true b e f = (
+  rw e
+      (further schema items es c p.first p.second
+      (subst (Reached schema items es c) (ref_is d p.first e) r) l),
+  h,
+)
+end_case schema items es c d p ps r l h false true e f = (
+  rw e
+      (further schema items es c p.second p.first
+      (subst (Reached schema items es c) (ref_is d p.second f) r) (back p.first p.second l)),
+  h,
+)
+end_case schema items es c d p ps r l h false false e f = h
 
-reached_has : (schema : Schema) (items : List Item) (es : List BExpr) (c d : ColumnRef)
-    (seen : List ColumnRef)
-    → AllByRecursion (Reached schema items es c) seen → has_ref d seen ≡ true
-    → Reached schema items es c d
-reached_has schema items es c d [] h e = absurd (cc)
-reached_has schema items es c d (x ∷ xs) h e =
-    reached_case schema items es c d x (has_ref d xs) h.0 (reached_has schema items es c d xs h.1)
-    (same_ref x d) refl e
+ends_are : (schema : Schema) (items : List Item) (es : List BExpr) (c d : ColumnRef)
+    (ps : List Pair)
+    → Reached schema items es c d → AllByRecursion (AreLinked schema items es) ps
+    → AllByRecursion (Reached schema items es c) (map (other_end d) (filter (touches d) ps))
+ends_are schema items es c d [] r l = tt
+ends_are schema items es c d (p ∷ ps) r l =
+    end_case schema items es c d p (filter (touches d) ps) r l.0
+    (ends_are schema items es c d ps r l.1) (same_ref d p.first) (same_ref d p.second) refl refl
 
-add_case : (schema : Schema) (items : List Item) (es : List BExpr) (c d e : ColumnRef)
-    (seen : List ColumnRef)
-    → AllByRecursion (Reached schema items es c) seen → Linked schema items es d e → (b n : Bool)
-    → has_ref d seen ≡ b
-    → AllByRecursion (Reached schema items es c) (cond (b && n) (e ∷ seen) seen)
-add_case schema items es c d e seen h l true true f =
-    (further schema items es c d e (reached_has schema items es c d seen h f) l, h)
-add_case schema items es c d e seen h l true false f = h
-add_case schema items es c d e seen h l false n f = h
-
-extend_is : (schema : Schema) (items : List Item) (es : List BExpr) (c : ColumnRef) (ps : List Pair)
-    (seen : List ColumnRef)
+visits_are : (schema : Schema) (items : List Item) (es : List BExpr) (c : ColumnRef) (n : ℕ)
+    (next : List ColumnRef) (ps : List Pair)
     → AllByRecursion (AreLinked schema items es) ps
-    → AllByRecursion (Reached schema items es c) seen
-    → AllByRecursion (Reached schema items es c) (extend ps seen)
-extend_is schema items es c [] seen l h = h
-extend_is schema items es c (p ∷ ps) seen l h =
-    let once =
-    add_case schema items es c p.first p.second seen h l.0 (has_ref p.first seen)
-    (not (has_ref p.second seen)) refl in
-    extend_is schema items es c ps _ l.1
-    (add_case schema items es c p.second p.first (add_if (has_ref p.first seen) p.second seen) once
-    (back p.first p.second l.0) (has_ref p.second (add_if (has_ref p.first seen) p.second seen))
-    (not (has_ref p.first (add_if (has_ref p.first seen) p.second seen))) refl)
-
-reach_is : (schema : Schema) (items : List Item) (es : List BExpr) (c : ColumnRef) (n : ℕ)
-    (ps : List Pair) (seen : List ColumnRef)
-    → AllByRecursion (AreLinked schema items es) ps
-    → AllByRecursion (Reached schema items es c) seen
-    → AllByRecursion (Reached schema items es c) (reach n ps seen)
-reach_is schema items es c zero ps seen l h = h
-reach_is schema items es c (suc n) ps seen l h =
-    reach_is schema items es c n ps (extend ps seen) l (extend_is schema items es c ps seen l h)
+    → AllByRecursion (Reached schema items es c) next
+    → AllByRecursion (Reached schema items es c) (visits n next ps)
+visits_are schema items es c zero next ps l h = tt
+visits_are schema items es c (suc n) [] ps l h = tt
+visits_are schema items es c (suc n) (d ∷ next) ps l h = (
+  h.0,
+  visits_are schema items es c n (map (other_end d) (filter (touches d) ps) ++ next)
+      (filter (λ p. not (touches d p)) ps)
+      (all_filter (AreLinked schema items es) (λ p. not (touches d p)) ps l)
+      (all_append (Reached schema items es c) (map (other_end d) (filter (touches d) ps)) next
+      (ends_are schema items es c d ps h.0 l) h.1),
+)
 
 pub itself : (c : ColumnRef) → same_ref c c ≡ true
 itself c =
@@ -237,11 +190,14 @@ others schema items es c [] h = tt
 others schema items es c (d ∷ ds) h =
     other_case schema items es c d _ h.0 (others schema items es c ds h.1) (same_ref d c) refl
 
--- the columns that the closure lists are linked
+-- the columns that are listed are linked
 pub linked_are : (schema : Schema) (items : List Item) (es : List BExpr) (c : ColumnRef)
     → AllByRecursion (Linked schema items es c) (linked_to schema items es c)
 linked_are schema items es c =
-    all_sort _ ref_cmp _
-    (others schema items es c _
-    (reach_is schema items es c (length (link_pairs schema items es)) (link_pairs schema items es)
-    (c ∷ []) (pairs_are schema items es) (inl refl, tt)))
+    let ps = link_pairs schema items es in
+    all_keep (eq_by_cmp ref_cmp) (Linked schema items es c)
+    (sort_by ref_cmp (filter (λ d. not (same_ref d c)) (visited c ps))) []
+    (all_sort (Linked schema items es c) ref_cmp (filter (λ d. not (same_ref d c)) (visited c ps))
+    (others schema items es c (visited c ps)
+    (visits_are schema items es c (suc (length ps)) (c ∷ []) ps (pairs_are schema items es)
+    (inl refl, tt))))

@@ -10,8 +10,8 @@ use Rattle.sql_meaning.specs.Values.{Text, Blob}
 use Rattle.sql_meaning.specs.Truth.{truth3}
 use Rattle.sql_meaning.specs.Conversions.{converted_by}
 use Rattle.sql_meaning.specs.Rows.{Assignment, cell, Site, Row, AtRowid, AtColumn, site_value}
-use Rattle.sql_meaning.specs.Expressions.{BExpr, Lit, Param, Column, Rowid, Plus, Collate, Cmp}
-use Rattle.sql_meaning.specs.Expressions.{OneOf, IsNull, Not, All, Any, ColumnRef, plain_column}
+use Rattle.sql_meaning.specs.Expressions.{BExpr, Column, Rowid, Collate, Cmp}
+use Rattle.sql_meaning.specs.Expressions.{OneOf, IsNull, Any, ColumnRef, plain_column}
 use Rattle.sql_meaning.specs.Expressions.{bare_column, Op, IsEqual, IsUnequal, IsBelow, IsAtMost}
 use Rattle.sql_meaning.specs.Expressions.{IsAbove, IsAtLeast, BExprs, Nil, More}
 use Rattle.sql_meaning.specs.Evaluation.{ev, from_truth, or3, is_true, op_holds, compares, holds}
@@ -19,11 +19,11 @@ use Rattle.sql_meaning.specs.Evaluation.{one_of3, evs, equals_any, any3}
 use Rattle.sql_meaning.specs.Terms.{flipped, TermKind, kind_holds, kind_of, SideServes}
 use Rattle.sql_meaning.specs.Terms.{ComparisonServes, entry_keys, Equals, AreEqualities, Serves}
 use Rattle.sql_meaning.specs.Terms.{Within, IsNothing, Low, High, IsRowid, Term, MayUse, part_of}
-use Rattle.sql_meaning.specs.Terms.{terms_true, LowFrom, HighFrom, Carries}
+use Rattle.sql_meaning.specs.Terms.{terms_true, EdgeFrom, Carries}
 use Rattle.sql_meaning.specs.Paths.{KeyExpr, key_value, EqPart, part_value, Edge, end_value}
 use Rattle.sql_meaning.specs.Schemas.{AliasHolds}
 use Rattle.sql_meaning.specs.IndexLists.{SortColumn}
-use Rattle.sql_meaning.specs.Walks.{part_holds, low_holds, high_holds, parts_hold}
+use Rattle.sql_meaning.specs.Walks.{End, part_holds, low_holds, high_holds, parts_hold}
 use Rattle.sql_meaning.proofs.Order.{value_cmp_total}
 
 pub some_is : {A : Type 0} (x y : A) → Some x ≡ Some y → x ≡ y
@@ -33,32 +33,13 @@ plain_is : (env : Assignment) (params : List Value) (e : BExpr) (c : ColumnRef)
     → plain_column e ≡ Some c → ev env params e ≡ cell env c.item c.site
 plain_is env params (Column item column) c h = ap (λ r. cell env r.item r.site) (some_is _ c h)
 plain_is env params (Rowid item) c h = ap (λ r. cell env r.item r.site) (some_is _ c h)
-plain_is env params (Lit v) c h = absurd (cc)
-plain_is env params (Param n) c h = absurd (cc)
-plain_is env params (Plus e) c h = absurd (cc)
-plain_is env params (Collate e collation) c h = absurd (cc)
-plain_is env params (Cmp op l r lc rc collation) c h = absurd (cc)
-plain_is env params (OneOf n l es ec collation) c h = absurd (cc)
-plain_is env params (IsNull n e) c h = absurd (cc)
-plain_is env params (Not e) c h = absurd (cc)
-plain_is env params (All es) c h = absurd (cc)
-plain_is env params (Any es) c h = absurd (cc)
+plain_is env params e c h = absurd (cc)
 
 -- a bare column is worth what the item's row has there
 pub bare_is : (env : Assignment) (params : List Value) (e : BExpr) (c : ColumnRef)
     → bare_column e ≡ Some c → ev env params e ≡ cell env c.item c.site
 bare_is env params (Collate e collation) c h = plain_is env params e c h
-bare_is env params (Column item column) c h = plain_is env params (Column item column) c h
-bare_is env params (Rowid item) c h = plain_is env params (Rowid item) c h
-bare_is env params (Lit v) c h = absurd (cc)
-bare_is env params (Param n) c h = absurd (cc)
-bare_is env params (Plus e) c h = absurd (cc)
-bare_is env params (Cmp op l r lc rc collation) c h = absurd (cc)
-bare_is env params (OneOf n l es ec collation) c h = absurd (cc)
-bare_is env params (IsNull n e) c h = absurd (cc)
-bare_is env params (Not e) c h = absurd (cc)
-bare_is env params (All es) c h = absurd (cc)
-bare_is env params (Any es) c h = absurd (cc)
+bare_is env params e c h = plain_is env params e c h
 
 -- the truth of a condition's value
 pub truth_again : (t : Option Bool) → truth3 (from_truth t) ≡ t
@@ -161,17 +142,7 @@ comparison_is env params item site collation kind
     (converted_by left_conversion (ev env params left))
     ∙ side_is env params item site collation kind
     (flipped op) right left right_conversion left_conversion s
-comparison_is env params item site collation kind (Lit v) h = absurd h
-comparison_is env params item site collation kind (Param n) h = absurd h
-comparison_is env params item site collation kind (Column i n) h = absurd h
-comparison_is env params item site collation kind (Rowid i) h = absurd h
-comparison_is env params item site collation kind (Plus e) h = absurd h
-comparison_is env params item site collation kind (Collate e c) h = absurd h
-comparison_is env params item site collation kind (OneOf n l es ec c) h = absurd h
-comparison_is env params item site collation kind (IsNull n e) h = absurd h
-comparison_is env params item site collation kind (Not e) h = absurd h
-comparison_is env params item site collation kind (All es) h = absurd h
-comparison_is env params item site collation kind (Any es) h = absurd h
+comparison_is env params item site collation kind e h = absurd h
 
 list_is : (env : Assignment) (params : List Value) (collation : Collation)
     (converted : Option Affinity) (v : Value) (es : BExprs)
@@ -224,14 +195,7 @@ serves_is env params item site collation kind (Any es) h =
     ap is_true (truth_again _)
     ∙ equalities_are env params item site collation es h.keys h.equalities
     ∙ ap (λ k. kind_holds env params collation k (cell env item site)) (sym h.says)
-serves_is env params item site collation kind (Lit v) h = absurd h
-serves_is env params item site collation kind (Param n) h = absurd h
-serves_is env params item site collation kind (Column i n) h = absurd h
-serves_is env params item site collation kind (Rowid i) h = absurd h
-serves_is env params item site collation kind (Plus e) h = absurd h
-serves_is env params item site collation kind (Collate e c) h = absurd h
-serves_is env params item site collation kind (Not e) h = absurd h
-serves_is env params item site collation kind (All es) h = absurd h
+serves_is env params item site collation kind e h = absurd h
 
 -- an Int compares alike under every collation
 int_alike : (a b : Collation) (n : ℤ) (k : Value) → value_cmp a (Int n) k ≡ value_cmp b (Int n) k
@@ -301,25 +265,19 @@ part_is env params collation IsNothing p v h =
 part_is env params collation (Low key i) p v h = absurd (cc)
 part_is env params collation (High key i) p v h = absurd (cc)
 
-low_is : (env : Assignment) (params : List Value) (alias : Option ℕ) (s : SortColumn)
-    (low : Option Edge) (ts : List Term) (row : Row)
-    → LowFrom alias s low ts → AliasHolds alias row
-    → low_holds s.collation (end_value env params low) (site_value s.site row)
-    ≡ terms_true env params ts row
-low_is env params alias s None ts row h k = sym (ap (λ us. terms_true env params us row) h)
-low_is env params alias s (Some e) ts row h k =
-    ap (λ d. kind_holds env params s.collation d (site_value s.site row)) (sym h.3)
-    ∙ may_use_is env params alias s h.0 row h.2 k
-    ∙ sym (and_none _) ∙ sym (ap (λ us. terms_true env params us row) h.1)
-
-high_is : (env : Assignment) (params : List Value) (alias : Option ℕ) (s : SortColumn)
-    (high : Option Edge) (ts : List Term) (row : Row)
-    → HighFrom alias s high ts → AliasHolds alias row
-    → high_holds s.collation (end_value env params high) (site_value s.site row)
-    ≡ terms_true env params ts row
-high_is env params alias s None ts row h k = sym (ap (λ us. terms_true env params us row) h)
-high_is env params alias s (Some e) ts row h k =
-    ap (λ d. kind_holds env params s.collation d (site_value s.site row)) (sym h.3)
+edge_is : (env : Assignment) (params : List Value) (alias : Option ℕ) (s : SortColumn)
+    (kind : KeyExpr → Bool → TermKind) (test : Option End → Value → Bool)
+    → ((v : Value) → test None v ≡ true)
+    → ((e : Edge) (v : Value) → test (end_value env params (Some e)) v
+    ≡ kind_holds env params s.collation (kind e.key e.inclusive) v)
+    → (edge : Option Edge) (ts : List Term) (row : Row)
+    → EdgeFrom kind alias s edge ts → AliasHolds alias row
+    → test (end_value env params edge) (site_value s.site row) ≡ terms_true env params ts row
+edge_is env params alias s kind test none some None ts row h k =
+    none (site_value s.site row) ∙ sym (ap (λ us. terms_true env params us row) h)
+edge_is env params alias s kind test none some (Some e) ts row h k =
+    some e (site_value s.site row)
+    ∙ ap (λ d. kind_holds env params s.collation d (site_value s.site row)) (sym h.3)
     ∙ may_use_is env params alias s h.0 row h.2 k
     ∙ sym (and_none _) ∙ sym (ap (λ us. terms_true env params us row) h.1)
 
@@ -345,7 +303,12 @@ pub carries_is : (env : Assignment) (params : List Value) (alias : Option ℕ) (
 carries_is env params alias [] eqs low high ts row h k =
     sym (ap (λ us. terms_true env params us row) h)
 carries_is env params alias (s ∷ ss) [] low high ts row h k =
-    rw (low_is env params alias s low h.0 row h.3 k, high_is env params alias s high h.1 row h.4 k)
+    rw (
+      edge_is env params alias s Low (low_holds s.collation) (λ v. refl) (λ e v. refl) low h.0 row
+          h.3 k,
+      edge_is env params alias s High (high_holds s.collation) (λ v. refl) (λ e v. refl) high h.1
+          row h.4 k,
+    )
     (sym (true-append env params h.0 h.1 row) ∙ sym (ap (λ us. terms_true env params us row) h.2))
 carries_is env params alias (s ∷ ss) (p ∷ ps) low high [] row h k = absurd h
 carries_is env params alias (s ∷ ss) (p ∷ ps) low high (t ∷ ts) row h k =

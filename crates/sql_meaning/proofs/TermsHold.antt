@@ -3,17 +3,17 @@ use Rattle.std.specs.List.{AllByRecursion, filter, slice_get}
 use Rattle.std.proofs.Common.{◌≡◌, Bool, true, false, ◌&&◌, refl, ℕ, ◌||◌, List, ◌∷◌, None, [], ap}
 use Rattle.std.proofs.Common.{ap₂, cond, ◌∙◌, Option, Some, sym, ◌++◌, not, suc, zero, subst, inl}
 use Rattle.std.proofs.Common.{inr}
-use Rattle.list_laws.proofs.Bools.{and_none, and_left, and_right, both_true}
+use Rattle.list_laws.proofs.Bools.{and_none, and_left, and_right, both_true, or_first}
 use Rattle.list_laws.proofs.Lists.{all_append}
 use Rattle.sql_meaning.specs.Statements.{Conjunct, chosen_hold, exprs_of, Bound, FitsStatement}
 use Rattle.sql_meaning.specs.Values.{Value}
 use Rattle.sql_meaning.specs.Rows.{Assignment}
-use Rattle.sql_meaning.specs.Expressions.{BExpr, Lit, Param, Column, Rowid, Plus, Collate, Cmp}
-use Rattle.sql_meaning.specs.Expressions.{OneOf, IsNull, Not, All, Any, BExprs, Nil, More, flat}
+use Rattle.sql_meaning.specs.Expressions.{BExpr}
+use Rattle.sql_meaning.specs.Expressions.{All, BExprs, Nil, More, flat}
 use Rattle.sql_meaning.specs.Expressions.{flat_all}
 use Rattle.sql_meaning.specs.Evaluation.{holds, and3, is_true, all3, evs, any3}
 use Rattle.sql_meaning.specs.Terms.{Term, term_holds}
-use Rattle.sql_meaning.specs.UsedTerms.{all_terms, any_terms, Used, AllOf, AnyOf, used_holds}
+use Rattle.sql_meaning.specs.UsedTerms.{Used, AllOf, AnyOf}
 use Rattle.sql_meaning.specs.UsedTerms.{IsTerm, IsBranchTerm, AreBranchTerms, IsOrTerm, UsedComes}
 use Rattle.sql_meaning.specs.UsedTerms.{Consumes}
 use Rattle.sql_meaning.specs.Schemas.{Schema}
@@ -21,6 +21,9 @@ use Rattle.sql_meaning.specs.Items.{Item, FitsExpr, FitsExprs}
 use Rattle.sql_meaning.specs.Conjuncts.{may_serve, may_derive}
 use Rattle.sql_meaning.proofs.Terms.{truth_again, some_is, serves_is, or3_true}
 use Rattle.sql_meaning.proofs.Links.{derived_holds, all_at}
+use Rattle.sql_meaning.specs.LikeTerms.{like_terms}
+use Rattle.sql_meaning.proofs.LikeTerms.{term_passes, Passes, like_passes}
+use Rattle.sql_meaning.proofs.PassingTerms.{all_pass, any_pass, used_pass, used_passes}
 
 -- a condition holds exactly where each member of its flattened AND list holds
 abbrev pub all_hold_of : Assignment → List Value → List BExpr → Bool
@@ -49,17 +52,7 @@ mutual
   pub flat_holds : (env : Assignment) (params : List Value) (e : BExpr)
       → all_hold_of env params (flat e) ≡ holds env params e
   flat_holds env params (All es) = flat_all_hold env params es ∙ sym (ap is_true (truth_again _))
-  flat_holds env params (Lit v) = and_none _
-  flat_holds env params (Param n) = and_none _
-  flat_holds env params (Column i n) = and_none _
-  flat_holds env params (Rowid i) = and_none _
-  flat_holds env params (Plus e) = and_none _
-  flat_holds env params (Collate e collation) = and_none _
-  flat_holds env params (Cmp op l r lc rc collation) = and_none _
-  flat_holds env params (OneOf n l es ec collation) = and_none _
-  flat_holds env params (IsNull n e) = and_none _
-  flat_holds env params (Not e) = and_none _
-  flat_holds env params (Any es) = and_none _
+  flat_holds env params e = and_none _
 
   flat_all_hold : (env : Assignment) (params : List Value) (es : BExprs)
       → all_hold_of env params (flat_all es) ≡ is_true (all3 (evs env params es))
@@ -135,17 +128,7 @@ mutual
   flat_fits : (schema : Schema) (items : List Item) (e : BExpr) → FitsExpr schema items e
       → AllByRecursion (FitsExpr schema items) (flat e)
   flat_fits schema items (All es) f = flat_all_fit schema items es f
-  flat_fits schema items (Lit v) f = (f, tt)
-  flat_fits schema items (Param n) f = (f, tt)
-  flat_fits schema items (Column i n) f = (f, tt)
-  flat_fits schema items (Rowid i) f = (f, tt)
-  flat_fits schema items (Plus e) f = (f, tt)
-  flat_fits schema items (Collate e collation) f = (f, tt)
-  flat_fits schema items (Cmp op l r lc rc collation) f = (f, tt)
-  flat_fits schema items (OneOf n l es ec collation) f = (f, tt)
-  flat_fits schema items (IsNull n e) f = (f, tt)
-  flat_fits schema items (Not e) f = (f, tt)
-  flat_fits schema items (Any es) f = (f, tt)
+  flat_fits schema items e f = (f, tt)
 
   flat_all_fit : (schema : Schema) (items : List Item) (es : BExprs) → FitsExprs schema items es
       → AllByRecursion (FitsExpr schema items) (flat_all es)
@@ -160,22 +143,32 @@ term_from : (schema : Schema) (bound : Bound) (params : List Value) (item : ℕ)
     → FitsStatement schema bound
     → chosen_hold (may_serve bound item) params bound.conjuncts env ≡ true
     → chosen_hold (may_derive bound item) params bound.conjuncts env ≡ true → (t : Term)
-    → IsTerm schema bound item t → term_holds env params item t ≡ true
+    → IsTerm schema bound item t → term_passes schema bound.items params item env t ≡ true
 term_from schema bound params item env g h k t (inl d) =
-    sym (serves_is env params item t.column t.collation t.kind d.conjunct.expr d.serves)
+    or_first (term_holds env params item t) _
+    (sym (serves_is env params item t.column t.collation t.kind d.conjunct.expr d.serves)
     ∙ chosen_at
-    (may_serve bound item) params bound.conjuncts env d.number d.conjunct h d.is d.allowed
-term_from schema bound params item env g h k t (inr (none, d)) =
-    derived_holds schema bound.items
+    (may_serve bound item) params bound.conjuncts env d.number d.conjunct h d.is d.allowed)
+term_from schema bound params item env g h k t (inr (none, inl d)) =
+    or_first (term_holds env params item t) _
+    (derived_holds schema bound.items
     (exprs_of (filter (may_derive bound item) bound.conjuncts)) env params
     (fits_filter schema bound.items (may_derive bound item) bound.conjuncts g)
-    (chosen_all (may_derive bound item) params bound.conjuncts env k) item t d
+    (chosen_all (may_derive bound item) params bound.conjuncts env k) item t d)
+term_from schema bound params item env g h k t (inr (none, inr d)) =
+    (all_at (Passes schema bound.items params item env)
+    (like_terms schema bound.items item d.conjunct.expr) d.at t
+    (like_passes schema bound.items params item env d.conjunct.expr
+    (chosen_at
+    (may_serve bound item) params bound.conjuncts env d.number d.conjunct h d.is d.allowed))
+    d.listed).1
 
 terms_from : (schema : Schema) (bound : Bound) (params : List Value) (item : ℕ) (env : Assignment)
     → FitsStatement schema bound
     → chosen_hold (may_serve bound item) params bound.conjuncts env ≡ true
     → chosen_hold (may_derive bound item) params bound.conjuncts env ≡ true → (ts : List Term)
-    → AllByRecursion (IsTerm schema bound item) ts → all_terms env params item ts ≡ true
+    → AllByRecursion (IsTerm schema bound item) ts
+    → all_pass (term_passes schema bound.items params item env) ts ≡ true
 terms_from schema bound params item env g h k [] c = refl
 terms_from schema bound params item env g h k (t ∷ ts) c =
     both_true _ _ (term_from schema bound params item env g h k t c.0)
@@ -185,18 +178,27 @@ branch_term : (schema : Schema) (bound : Bound) (params : List Value) (c : Conju
     (env : Assignment) (es : List BExpr)
     → AllByRecursion (FitsExpr schema bound.items) es
     → AllByRecursion (λ e. holds env params e ≡ true) es → (t : Term)
-    → IsBranchTerm schema bound c item es t → term_holds env params item t ≡ true
+    → IsBranchTerm schema bound c item es t
+    → term_passes schema bound.items params item env t ≡ true
 branch_term schema bound params c item env es g h t (inl d) =
-    sym (serves_is env params item t.column t.collation t.kind d.1 d.3)
-    ∙ all_at (λ e. holds env params e ≡ true) es d.0 d.1 h d.2
-branch_term schema bound params c item env es g h t (inr (may, d)) =
-    derived_holds schema bound.items es env params g h item t d
+    or_first (term_holds env params item t) _
+    (sym (serves_is env params item t.column t.collation t.kind d.1 d.3)
+    ∙ all_at (λ e. holds env params e ≡ true) es d.0 d.1 h d.2)
+branch_term schema bound params c item env es g h t (inr (inl (may, d))) =
+    or_first (term_holds env params item t) _
+    (derived_holds schema bound.items es env params g h item t d)
+branch_term schema bound params c item env es g h t (inr (inr d)) =
+    (all_at (Passes schema bound.items params item env) (like_terms schema bound.items item d.2) d.1
+    t
+    (like_passes schema bound.items params item env d.2
+    (all_at (λ e. holds env params e ≡ true) es d.0 d.2 h d.3)) d.4).1
 
 branch_terms : (schema : Schema) (bound : Bound) (params : List Value) (c : Conjunct) (item : ℕ)
     (env : Assignment) (es : List BExpr)
     → AllByRecursion (FitsExpr schema bound.items) es
     → AllByRecursion (λ e. holds env params e ≡ true) es → (ts : List Term)
-    → AllByRecursion (IsBranchTerm schema bound c item es) ts → all_terms env params item ts ≡ true
+    → AllByRecursion (IsBranchTerm schema bound c item es) ts
+    → all_pass (term_passes schema bound.items params item env) ts ≡ true
 branch_terms schema bound params c item env es g h [] k = refl
 branch_terms schema bound params c item env es g h (t ∷ ts) k =
     both_true _ _ (branch_term schema bound params c item env es g h t k.0)
@@ -212,7 +214,8 @@ or_either false b false y f g h = g h
 branches_from : (schema : Schema) (bound : Bound) (params : List Value) (c : Conjunct) (item : ℕ)
     (env : Assignment) (es : BExprs) (tss : List (List Term))
     → FitsExprs schema bound.items es → AreBranchTerms schema bound c item es tss
-    → is_true (any3 (evs env params es)) ≡ true → any_terms env params item tss ≡ true
+    → is_true (any3 (evs env params es)) ≡ true
+    → any_pass (term_passes schema bound.items params item env) tss ≡ true
 branches_from schema bound params c item env Nil [] g k h = absurd (cc)
 branches_from schema bound params c item env Nil (ts ∷ tss) g k h = absurd k
 branches_from schema bound params c item env (More e es) [] g k h = absurd k
@@ -227,7 +230,7 @@ branches_from schema bound params c item env (More e es) (ts ∷ tss) g k h =
 pub or_holds : (schema : Schema) (bound : Bound) (params : List Value) (item : ℕ) (env : Assignment)
     (tss : List (List Term)) (o : IsOrTerm schema bound item tss)
     → FitsStatement schema bound → holds env params o.conjunct.expr ≡ true
-    → any_terms env params item tss ≡ true
+    → any_pass (term_passes schema bound.items params item env) tss ≡ true
 or_holds schema bound params item env tss o g h =
     branches_from schema bound params o.conjunct item env o.branches tss
     (subst (FitsExpr schema bound.items) o.any
@@ -241,7 +244,7 @@ pub used_from : (schema : Schema) (bound : Bound) (params : List Value) (item : 
     → FitsStatement schema bound → UsedComes schema bound item used
     → chosen_hold (may_serve bound item) params bound.conjuncts env ≡ true
     → chosen_hold (may_derive bound item) params bound.conjuncts env ≡ true
-    → used_holds env params item used ≡ true
+    → used_passes schema bound params item used env ≡ true
 used_from schema bound params item env (AllOf ts) g c h k =
     terms_from schema bound params item env g h k ts c
 used_from schema bound params item env (AnyOf tss) g c h k =
@@ -249,14 +252,12 @@ used_from schema bound params item env (AnyOf tss) g c h k =
     (chosen_at
     (may_serve bound item) params bound.conjuncts env c.number c.conjunct h c.is c.allowed)
 
-term_at : (params : List Value) (item : ℕ) (env : Assignment) (ts : List Term) (k : ℕ) (t : Term)
-    → all_terms env params item ts ≡ true → slice_get ts k ≡ Some t
-    → term_holds env params item t ≡ true
-term_at params item env [] k t h e = absurd (cc)
-term_at params item env (u ∷ ts) zero t h e =
-    subst (λ (z : Term). term_holds env params item z ≡ true) (some_is u t e) (and_left _ _ h)
-term_at params item env (u ∷ ts) (suc k) t h e =
-    term_at params item env ts k t (and_right (term_holds env params item u) _ h) e
+term_at : (test : Term → Bool) (ts : List Term) (k : ℕ) (t : Term)
+    → all_pass test ts ≡ true → slice_get ts k ≡ Some t → test t ≡ true
+term_at test [] k t h e = absurd (cc)
+term_at test (u ∷ ts) zero t h e =
+    subst (λ (z : Term). test z ≡ true) (some_is u t e) (and_left _ _ h)
+term_at test (u ∷ ts) (suc k) t h e = term_at test ts k t (and_right (test u) _ h) e
 
 consumed_term : (schema : Schema) (bound : Bound) (params : List Value) (item : ℕ)
     (env : Assignment) (number : ℕ) (t : Term)
@@ -275,15 +276,18 @@ consumed_term schema bound params item env number t (inl d) e h =
 consumed_term schema bound params item env number t (inr (none, d)) e h =
     absurd (let no : None ≡ Some number = sym none ∙ e in cc)
 
--- each consumed conjunct holds where the used terms do
+-- each consumed conjunct holds where the used terms pass a test that direct terms pass only where
+-- they hold
 pub consumed_holds : (schema : Schema) (bound : Bound) (params : List Value) (item : ℕ)
-    (env : Assignment) (used : Used) (number : ℕ)
-    → UsedComes schema bound item used → Consumes used number
-    → used_holds env params item used ≡ true → (c : Conjunct)
+    (env : Assignment) (test : Term → Bool)
+    → ((t : Term) (number : ℕ) → t.conjunct ≡ Some number → test t ≡ true
+    → term_holds env params item t ≡ true)
+    → (used : Used) (number : ℕ) → UsedComes schema bound item used → Consumes used number
+    → used_pass test used ≡ true → (c : Conjunct)
     × (slice_get bound.conjuncts number ≡ Some c) × (may_serve bound item c ≡ true)
     × (holds env params c.expr ≡ true)
-consumed_holds schema bound params item env (AllOf ts) number c k h =
+consumed_holds schema bound params item env test sure (AllOf ts) number c k h =
     consumed_term schema bound params item env number k.1
     (all_at (IsTerm schema bound item) ts k.0 k.1 c k.2) k.3
-    (term_at params item env ts k.0 k.1 h k.2)
-consumed_holds schema bound params item env (AnyOf tss) number c k h = absurd k
+    (sure k.1 number k.3 (term_at test ts k.0 k.1 h k.2))
+consumed_holds schema bound params item env test sure (AnyOf tss) number c k h = absurd k

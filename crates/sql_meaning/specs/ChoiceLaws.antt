@@ -4,6 +4,8 @@ use Rattle.sql_meaning.specs.Expressions.{BExprs, Any}
 use Rattle.sql_meaning.specs.Schemas.{Schema}
 use Rattle.sql_meaning.specs.Paths.{TableScan, IndexScan, Union}
 use Rattle.sql_meaning.specs.Statements.{Bound, Conjunct, FitsStatement, has_number, item_alias}
+use Rattle.sql_meaning.specs.Statements.{table_of}
+use Rattle.sql_meaning.specs.Fitting.{IsIndexOf}
 use Rattle.sql_meaning.specs.Conjuncts.{may_serve}
 use Rattle.sql_meaning.specs.UsedTerms.{AllOf, AnyOf}
 use Rattle.sql_meaning.specs.Offers.{IsOffer}
@@ -23,6 +25,7 @@ abbrev pub IndexScansAreOffers : Type 0
 IndexScansAreOffers =
     (schema : Schema) (bound : Bound) (placed : List ℕ) (item index : ℕ) (reverse : Bool)
     → FitsStatement schema bound → has_number item placed ≡ false
+    → IsIndexOf schema (table_of (slice_get bound.items item)) index
     → IsOffer schema bound placed
     (record { item = item; path = IndexScan index; reverse = reverse; consumed = [] }) (AllOf [])
 
@@ -40,6 +43,7 @@ IndexSeeksAreOffers =
     (schema : Schema) (bound : Bound) (placed : List ℕ) (item index : ℕ) (reverse : Bool)
     (o : Offer)
     → FitsStatement schema bound → has_number item placed ≡ false
+    → IsIndexOf schema (table_of (slice_get bound.items item)) index
     → seek_offer placed (item_alias schema bound item) (item_terms schema bound item) index
     (columns_at (slice_get schema.indexes index)) ≡ Some o
     → IsOffer schema bound placed

@@ -6,11 +6,10 @@ use Rattle.std.specs.Ordering.{nat_cmp, eq_by_cmp}
 use Rattle.list_laws.specs.Order.{sort_by}
 use Rattle.list_laws.specs.FirstComing.{keep_first}
 use Rattle.sql_meaning.specs.Rows.{Site, AtRowid, AtColumn}
-use Rattle.sql_meaning.specs.Terms.{Term, keys_of, TermKind, Equals, Within, IsNothing, Low, High}
-use Rattle.sql_meaning.specs.Expressions.{names}
-use Rattle.sql_meaning.specs.Paths.{KeyExpr, EqPart, OneKey, ManyKeys, NullKey, Edge, Path}
+use Rattle.sql_meaning.specs.UsedTerms.{is_usable}
+use Rattle.sql_meaning.specs.Terms.{Term, part_of, TermKind, Equals, Within, IsNothing, Low, High}
+use Rattle.sql_meaning.specs.Paths.{EqPart, NullKey, Edge, Path}
 use Rattle.sql_meaning.specs.Paths.{RowidRange, RowidEq, IndexSeek, Paths, Nowhere, Then}
-use Rattle.sql_meaning.specs.Statements.{all_in}
 use Rattle.sql_meaning.specs.Orders.{same_site, same_collation}
 use Rattle.sql_meaning.specs.Schemas.{IndexColumn}
 use Rattle.sql_meaning.specs.OrderState.{column_site}
@@ -21,14 +20,6 @@ pub record ColumnTerms : Type 0 where
   pub equals : List Term
   pub lows : List Term
   pub highs : List Term
-
--- a term may be used where the items that its key names are placed
-abbrev pub keys_in : List ℕ → List KeyExpr → Bool
-keys_in placed [] = true
-keys_in placed (k ∷ ks) = all_in (names k.expr) placed && keys_in placed ks
-
-abbrev pub is_usable : List ℕ → Term → Bool
-is_usable placed t = keys_in placed (keys_of t.kind)
 
 -- IS NULL, and a term on the rowid, may be used whatever the collation is
 abbrev pub suits : Site → TermKind → Bool → Bool
@@ -47,12 +38,13 @@ abbrev pub terms_at : Site → List ColumnTerms → ColumnTerms
 terms_at site [] = record { column = site; equals = []; lows = []; highs = [] }
 terms_at site (c ∷ cs) = cond (same_site c.column site) c (terms_at site cs)
 
+abbrev pub or_null_key : Option EqPart → EqPart
+or_null_key None = NullKey
+or_null_key (Some part) = part
+
+-- the part of an equality term; no other is asked for one
 abbrev pub part_or : TermKind → EqPart
-part_or (Equals key) = OneKey key
-part_or (Within keys) = ManyKeys keys
-part_or IsNothing = NullKey
-part_or (Low key inclusive) = NullKey
-part_or (High key inclusive) = NullKey
+part_or kind = or_null_key (part_of kind)
 
 abbrev pub edge_or : TermKind → Option Edge
 edge_or (Equals key) = None

@@ -6,9 +6,11 @@ use Rattle.std.specs.Ordering.{is_eq, is_ne, is_lt, is_le, is_gt, is_ge}
 use Rattle.std.specs.Option.{option_map}
 use Rattle.sql_meaning.specs.Expressions.{Op, IsEqual, IsUnequal, IsBelow, IsAtMost, IsAbove}
 use Rattle.sql_meaning.specs.Expressions.{IsAtLeast, BExpr, BExprs, Lit, Param, Column, Rowid, Plus}
-use Rattle.sql_meaning.specs.Expressions.{Collate, Cmp, OneOf, IsNull, Not, All, Any, Nil, More}
+use Rattle.sql_meaning.specs.Expressions.{Collate, Cmp, OneOf, Like, IsNull, Not, All, Any, Nil}
+use Rattle.sql_meaning.specs.Expressions.{More}
 use Rattle.sql_meaning.specs.Values.{Value, Collation, value_cmp, is_null, Null, Int}
 use Rattle.sql_meaning.specs.Truth.{truth3}
+use Rattle.sql_meaning.specs.Likes.{like3}
 use Rattle.sql_meaning.specs.Conversions.{converted_by}
 use Rattle.sql_meaning.specs.Rows.{AtRowid, AtColumn, Assignment, cell}
 
@@ -43,7 +45,7 @@ or3 None None = None
 abbrev pub not3 : Option Bool → Option Bool
 not3 t = option_map not t
 
--- NOT IN and IS NOT NULL
+-- NOT IN, NOT LIKE and IS NOT NULL
 abbrev pub negated_if : Bool → Option Bool → Option Bool
 negated_if true t = not3 t
 negated_if false t = t
@@ -92,6 +94,8 @@ abbrev mutual
       (negated_if negated
       (one_of3 collation (ev env params left)
       (map (converted_by entry_conversion) (evs env params entries))))
+  ev env params (Like negated e pattern) =
+      from_truth (negated_if negated (like3 (ev env params e) (ev env params pattern)))
   ev env params (IsNull negated e) =
       from_truth (negated_if negated (Some (is_null (ev env params e))))
   ev env params (Not e) = from_truth (not3 (truth3 (ev env params e)))

@@ -28,6 +28,7 @@ mutual
     OneOf : (negated : Bool) (left : BExpr) (entries : BExprs) (entry_conversion : Option Affinity)
         (collation : Collation)
         → BExpr
+    Like : (negated : Bool) (e pattern : BExpr) → BExpr
     IsNull : (negated : Bool) (e : BExpr) → BExpr
     Not : (e : BExpr) → BExpr
     All : (es : BExprs) → BExpr
@@ -48,6 +49,7 @@ abbrev mutual
   names (Collate e collation) = names e
   names (Cmp op left right left_conversion right_conversion collation) = names left ++ names right
   names (OneOf negated left entries entry_conversion collation) = names left ++ all_names entries
+  names (Like negated e pattern) = names e ++ names pattern
   names (IsNull negated e) = names e
   names (Not e) = names e
   names (All es) = all_names es
@@ -69,6 +71,7 @@ abbrev mutual
   flat (Collate e collation) = Collate e collation ∷ []
   flat (Cmp op l r lc rc collation) = Cmp op l r lc rc collation ∷ []
   flat (OneOf n l es ec collation) = OneOf n l es ec collation ∷ []
+  flat (Like n e pattern) = Like n e pattern ∷ []
   flat (IsNull n e) = IsNull n e ∷ []
   flat (Not e) = Not e ∷ []
   flat (Any es) = Any es ∷ []

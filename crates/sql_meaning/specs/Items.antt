@@ -5,8 +5,8 @@ use Rattle.sql_meaning.specs.Values.{Binary, Integer, Affinity}
 use Rattle.sql_meaning.specs.Conversions.{side_conversion}
 use Rattle.sql_meaning.specs.Rows.{Site, AtRowid, AtColumn}
 use Rattle.sql_meaning.specs.Expressions.{ColumnRef, BExpr, Column, Rowid, Collate, Lit, Param}
-use Rattle.sql_meaning.specs.Expressions.{Plus, Cmp, OneOf, IsNull, Not, All, Any, BExprs, Nil}
-use Rattle.sql_meaning.specs.Expressions.{More}
+use Rattle.sql_meaning.specs.Expressions.{Plus, Cmp, OneOf, Like, IsNull, Not, All, Any, BExprs}
+use Rattle.sql_meaning.specs.Expressions.{Nil, More}
 
 -- a table in a FROM clause; `cross` where it comes after CROSS JOIN, `left` after LEFT JOIN
 pub record Item : Type 0 where
@@ -52,6 +52,8 @@ abbrev mutual
   FitsExpr schema items (OneOf negated left entries entry_conversion collation) =
       (entry_conversion ≡ side_conversion None (expr_affinity schema items left))
       × FitsExpr schema items left × FitsExprs schema items entries
+  FitsExpr schema items (Like negated e pattern) =
+      FitsExpr schema items e × FitsExpr schema items pattern
   FitsExpr schema items (IsNull negated e) = FitsExpr schema items e
   FitsExpr schema items (Not e) = FitsExpr schema items e
   FitsExpr schema items (All es) = FitsExprs schema items es

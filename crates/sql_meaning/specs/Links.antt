@@ -11,12 +11,12 @@ use Rattle.sql_meaning.specs.Terms.{Equals, Term, Serves}
 
 -- under numeric affinities equal values are the same number, and so on: no side of a comparison
 -- within a class is converted
-abbrev pub affinity_class : Affinity → Affinity
-affinity_class Integer = Numeric
-affinity_class Real = Numeric
-affinity_class Numeric = Numeric
-affinity_class TextAffinity = TextAffinity
-affinity_class BlobAffinity = BlobAffinity
+abbrev pub affinity_class : Affinity → ℕ
+affinity_class Integer = 0
+affinity_class Real = 0
+affinity_class Numeric = 0
+affinity_class TextAffinity = 1
+affinity_class BlobAffinity = 2
 
 -- `c = d` links two columns of different items where it compares them as each compares itself: by
 -- the own collation of both, and with affinities of one class

@@ -1,7 +1,7 @@
 -- What order nested loops give by themselves, and when a plan must sort (optoverview, "ORDER BY
 -- Optimizations").
 use Rattle.std.specs.Prelude.{Bool, true, false, ℕ, ◌==◌, Option, Some, None, cond, List, [], ◌∷◌}
-use Rattle.std.specs.Prelude.{slice_get, ◌&&◌, ◌||◌, not, ◌+◌, ◌-◌, length, ◌≡◌, map}
+use Rattle.std.specs.Prelude.{slice_get, ◌&&◌, ◌||◌, not, ◌+◌, ◌-◌, length, ◌≡◌, map, fold}
 use Rattle.sql_meaning.specs.Values.{Collation, Binary}
 use Rattle.sql_meaning.specs.Rows.{Site, AtRowid, AtColumn}
 use Rattle.sql_meaning.specs.Paths.{EqPart, OneKey, ManyKeys, NullKey, Path, TableScan, RowidEq}
@@ -109,7 +109,7 @@ key_matches item p k =
 abbrev pub needs_backward : Position → SortKey → Bool
 needs_backward p k = not (same_flag k.falling p.falling)
 
--- what a loop makes of the keys: it loses the order, or leaves those that it does not give, walked
+-- how far a walk gives the order: it loses it, or leaves those keys that it does not give, and goes
 -- in a direction once a match fixed one (`true` for backward)
 pub data Passing : Type 0 where
   Loses : Passing
@@ -120,24 +120,23 @@ drop_held held [] = []
 drop_held held (k ∷ ks) = cond (held k) (drop_held held ks) (k ∷ ks)
 
 -- the first match fixes the direction of the walk, and each later one must agree
-abbrev pub with_direction : Option Bool → Bool → (Bool → Passing) → Passing
-with_direction None needed go = go needed
-with_direction (Some d) needed go = cond (same_flag d needed) (go d) Loses
+abbrev pub agrees : Option Bool → Bool → Bool
+agrees None needed = true
+agrees (Some d) needed = same_flag d needed
 
-abbrev pub at_position : ℕ → Option Bool → Position → (Option Bool → List SortKey → Passing)
-    → List SortKey → Passing
-at_position item direction p go [] = Leaves [] direction
-at_position item direction p go (k ∷ ks) =
-    cond p.held (go direction (k ∷ ks))
-    (cond (key_matches item p k)
-    (with_direction direction (needs_backward p k) (λ d. go (Some d) ks)) Loses)
+-- a held position is passed; another one gives the next key, if that is its column and goes along
+abbrev pub pass_next : ℕ → Position → Option Bool → List SortKey → Passing
+pass_next item p direction [] = Leaves [] direction
+pass_next item p direction (k ∷ ks) =
+    cond p.held (Leaves (k ∷ ks) direction)
+    (cond (key_matches item p k && agrees direction (needs_backward p k))
+    (Leaves ks (Some (needs_backward p k))) Loses)
 
--- at each position: held keys are passed first; a held position is passed; else the next key must
--- be that position's column
-abbrev pub pass : ℕ → (SortKey → Bool) → List Position → Option Bool → List SortKey → Passing
-pass item held [] direction keys = Leaves keys direction
-pass item held (p ∷ ps) direction keys =
-    at_position item direction p (pass item held ps) (drop_held held keys)
+-- the step at a position: keys that are held are passed, and then at most one more
+abbrev pub pass_position : ℕ → (SortKey → Bool) → Passing → Position → Passing
+pass_position item held Loses p = Loses
+pass_position item held (Leaves keys direction) p =
+    pass_next item p direction (drop_held held keys)
 
 -- a seek of one rowid gives one row at most, so it passes each next key that is a column of its
 -- item
@@ -155,8 +154,10 @@ loop_passes schema bound loop keys =
     cond (lost_by loop.path) Loses
     (cond (is_single loop.path)
     (Leaves (drop_held (λ k. on_item loop.item (bare_column k.expr)) keys) None)
-    (pass loop.item (key_held schema (item_alias schema bound loop.item) loop.item loop.path)
-    (positions schema (item_alias schema bound loop.item) loop.path) None keys))
+    (fold
+    (pass_position loop.item
+    (key_held schema (item_alias schema bound loop.item) loop.item loop.path)) (Leaves keys None)
+    (positions schema (item_alias schema bound loop.item) loop.path)))
 
 -- done: the rows come in order, whatever the loops inside do. Open: each loop so far gives no two
 -- rows that tie, and these keys are left. Lost: the plan must sort
@@ -165,16 +166,23 @@ pub data State : Type 0 where
   Lost : State
   Open : (left : List SortKey) → State
 
-abbrev pub after_passing : Passing → (List SortKey → State) → State
-after_passing Loses go = Lost
-after_passing (Leaves keys direction) go = go keys
+abbrev pub open_for : List SortKey → State
+open_for [] = Done
+open_for (k ∷ ks) = Open (k ∷ ks)
 
--- from outside in; a loop is looked at only while the state is open
+abbrev pub state_after : Passing → State
+state_after Loses = Lost
+state_after (Leaves keys direction) = open_for keys
+
+-- the step of a loop, which is looked at only while the state is open
+abbrev pub pass_loop : Schema → Bound → State → Loop → State
+pass_loop schema bound Done loop = Done
+pass_loop schema bound Lost loop = Lost
+pass_loop schema bound (Open keys) loop = state_after (loop_passes schema bound loop keys)
+
+-- the order state of loops, from outside in
 abbrev pub state : Schema → Bound → List Loop → List SortKey → State
-state schema bound loops [] = Done
-state schema bound [] (k ∷ ks) = Open (k ∷ ks)
-state schema bound (l ∷ ls) (k ∷ ks) =
-    after_passing (loop_passes schema bound l (k ∷ ks)) (state schema bound ls)
+state schema bound loops keys = fold (pass_loop schema bound) (open_for keys) loops
 
 -- done 0, lost 1, and open 2 more than the number of keys that are passed
 abbrev pub state_number : List SortKey → State → ℕ
@@ -187,20 +195,25 @@ is_done Done = true
 is_done Lost = false
 is_done (Open left) = false
 
-abbrev pub backward : Option Bool → Bool
-backward None = false
-backward (Some d) = d
+abbrev pub is_backward : Passing → Bool
+is_backward Loses = false
+is_backward (Leaves keys None) = false
+is_backward (Leaves keys (Some d)) = d
 
-abbrev pub directions_after : Passing → (List SortKey → List Bool) → List Bool
-directions_after Loses go = false ∷ []
-directions_after (Leaves keys direction) go = backward direction ∷ go keys
+-- a loop's direction, `true` for backward; one that isn't looked at goes forward
+abbrev pub direction : Schema → Bound → State → Loop → Bool
+direction schema bound Done loop = false
+direction schema bound Lost loop = false
+direction schema bound (Open keys) loop = is_backward (loop_passes schema bound loop keys)
 
--- each loop's direction, `true` for backward; a loop that isn't looked at goes forward
+abbrev pub directions_from : Schema → Bound → State → List Loop → List Bool
+directions_from schema bound s [] = []
+directions_from schema bound s (l ∷ ls) =
+    direction schema bound s l ∷ directions_from schema bound (pass_loop schema bound s l) ls
+
+-- each loop's direction
 abbrev pub directions : Schema → Bound → List Loop → List SortKey → List Bool
-directions schema bound [] keys = []
-directions schema bound (l ∷ ls) [] = false ∷ directions schema bound ls []
-directions schema bound (l ∷ ls) (k ∷ ks) =
-    directions_after (loop_passes schema bound l (k ∷ ks)) (directions schema bound ls)
+directions schema bound loops keys = directions_from schema bound (open_for keys) loops
 
 -- the plan sorts exactly where its loops don't give the order; where they do, each walks in its
 -- direction, and where they don't, all walk forward

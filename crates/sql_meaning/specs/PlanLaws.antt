@@ -11,9 +11,9 @@ use Rattle.sql_meaning.specs.Schemas.{Schema, Database, IsDatabaseOf}
 use Rattle.sql_meaning.specs.Statements.{Bound, all_in, is_empty, is_left, is_common, chosen_hold}
 use Rattle.sql_meaning.specs.Statements.{SomeFails, choices, numbers_from, statement_rows}
 use Rattle.sql_meaning.specs.Statements.{OwnersAreLeft}
-use Rattle.sql_meaning.specs.Plans.{Loop, Plan, always, consumed_by, steps_of, plan_walks}
+use Rattle.sql_meaning.specs.Plans.{Loop, Plan, consumed_by, steps_of, plan_walks}
 use Rattle.sql_meaning.specs.UsedTerms.{Used}
-use Rattle.sql_meaning.specs.Offers.{AreOffers, FitsOffers, loop_items}
+use Rattle.sql_meaning.specs.Offers.{AreOffers, FitsOffers, PlanFits, loop_items}
 use Rattle.sql_meaning.specs.Orders.{by_keys}
 use Rattle.sql_meaning.specs.OrderState.{FitsOrder}
 use Rattle.sql_meaning.specs.Asked.{uncut, Means}
@@ -49,7 +49,7 @@ placed_by (l ∷ ls) placed = placed_by ls (l.item ∷ placed)
 -- plan; `left` is any list of assignments of the items to its left, missing rows among them
 abbrev pub BlocksLeaveOutWhatFails : Type 0
 BlocksLeaveOutWhatFails =
-    (schema : Schema) (bound : Bound) (before block later : List Loop) (used : Loop → Used)
+    (schema : Schema) (bound : Bound) (before block later : List Loop) (used : List Used)
     (start count : ℕ)
     → AreOffers schema bound [] (before ++ (block ++ later)) used → OwnersAreLeft bound
     → block ≢ [] → AllByRecursion (λ l. is_left bound l.item ≡ false) block
@@ -60,7 +60,7 @@ BlocksLeaveOutWhatFails =
     → LeavesOutWhatFails bound params (numbers_from start count ++ placed_by before [])
     (flat_map
     (nested
-    (steps_of schema database bound params (consumed_by (before ++ (block ++ later))) (λ l. always)
+    (steps_of schema database bound params (consumed_by (before ++ (block ++ later)))
     (placed_by before []) block)) left)
     (flat_map
     (λ g. filter (block_holds bound params (placed_by before []) (loop_items block))
@@ -80,6 +80,10 @@ PlansGiveTheOrder =
     (schema : Schema) (plan : Plan) → FitsOffers schema plan → FitsOrder schema plan
     → (database : Database) → IsDatabaseOf schema database → (params : List Value)
     → Ascends (by_keys params plan.bound.keys) (uncut schema database plan params)
+
+-- a plan whose loops are offers fits the schema
+abbrev pub OfferedPlansFit : Type 0
+OfferedPlansFit = (schema : Schema) (plan : Plan) → FitsOffers schema plan → PlanFits schema plan
 
 -- a plan whose loops are offers, with the flags that its order state asks, means its statement
 abbrev pub OfferedPlansMean : Type 0

@@ -46,34 +46,30 @@ loop_walk schema database bound params consumed placed loop env =
     (directed_walk loop.reverse
     (walk schema params loop.path (item_rows database bound loop.item) env))))
 
--- then the common conjuncts of this loop are tested; `used` plays no part in it
+-- then the common conjuncts of this loop are tested
 abbrev pub step_of : Schema → Database → Bound → List Value → List ℕ → List ℕ → Loop
-    → (Assignment → Bool) → Step (Option Row)
-step_of schema database bound params consumed placed loop used = record {
+    → Step (Option Row)
+step_of schema database bound params consumed placed loop = record {
   item = loop.item;
   walk = loop_walk schema database bound params consumed placed loop;
-  used = used;
   test = level_test is_common params consumed placed loop.item 0 bound.conjuncts;
 }
-
-abbrev pub always : Assignment → Bool
-always env = true
 
 -- a conjunct that a path consumed is tested at no loop
 abbrev pub consumed_by : List Loop → List ℕ
 consumed_by loops = flat_map (λ l. l.consumed) loops
 
 -- a step for each loop, after the items placed before it
-abbrev pub steps_of : Schema → Database → Bound → List Value → List ℕ
-    → (Loop → Assignment → Bool) → List ℕ → List Loop → List (Step (Option Row))
-steps_of schema database bound params consumed used placed [] = []
-steps_of schema database bound params consumed used placed (l ∷ ls) =
-    step_of schema database bound params consumed placed l (used l)
-    ∷ steps_of schema database bound params consumed used (l.item ∷ placed) ls
+abbrev pub steps_of : Schema → Database → Bound → List Value → List ℕ → List ℕ → List Loop
+    → List (Step (Option Row))
+steps_of schema database bound params consumed placed [] = []
+steps_of schema database bound params consumed placed (l ∷ ls) =
+    step_of schema database bound params consumed placed l
+    ∷ steps_of schema database bound params consumed (l.item ∷ placed) ls
 
 -- the nested loops of the plan, on a database
 abbrev pub plan_walks : Schema → Database → Plan → List Value → List Assignment
 plan_walks schema database plan params =
     nested
-    (steps_of schema database plan.bound params (consumed_by plan.loops)
-    (λ l. always) [] plan.loops) (no_rows plan.bound)
+    (steps_of schema database plan.bound params (consumed_by plan.loops) [] plan.loops)
+    (no_rows plan.bound)

@@ -2,6 +2,7 @@
 -- tried.
 use Rattle.std.specs.Prelude.{Bool, true, false, Option, Some, None, ℕ, cond, ◌&&◌, ◌==◌, not, List}
 use Rattle.std.specs.Prelude.{◌∷◌, [], suc, ◌++◌}
+use Rattle.std.specs.Option.{option_or}
 use Rattle.sql_meaning.specs.Values.{Collation, Affinity}
 use Rattle.sql_meaning.specs.Rows.{Site}
 use Rattle.sql_meaning.specs.Terms.{TermKind, flipped, kind_of, Equals, Within, IsNothing}
@@ -31,14 +32,10 @@ side_served item (Some c) ok (Some kind) collation =
     cond ((c.item == item) && ok)
     (Some (record { site = c.site; collation = collation; kind = kind })) None
 
-abbrev pub served_or : Option Served → Option Served → Option Served
-served_or None o = o
-served_or (Some s) o = Some s
-
 -- a comparison serves from its left side, else from its right side
 abbrev pub comparison_served : ℕ → BExpr → Option Served
 comparison_served item (Cmp op left right left_conversion right_conversion collation) =
-    served_or
+    option_or
     (side_served item (bare_column left)
     (no_conversion left_conversion && not (has_number item (names right)))
     (kind_of op (record { expr = right; conversion = right_conversion })) collation)

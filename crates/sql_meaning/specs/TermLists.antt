@@ -4,13 +4,13 @@ use Rattle.std.specs.Prelude.{false, ◌||◌, zero, suc, ◌+◌, length, ◌++
 use Rattle.std.specs.Prelude.{◌⊎◌}
 use Rattle.std.specs.List.{flat_map, filter}
 use Rattle.std.specs.declared.cmp.Ordering.{Ordering}
-use Rattle.std.specs.Ordering.{nat_cmp, on, then_cmp}
+use Rattle.std.specs.Ordering.{nat_cmp, on, then_cmp, eq_by_cmp}
 use Rattle.list_laws.specs.Order.{sort_by}
+use Rattle.list_laws.specs.FirstComing.{keep_first}
 use Rattle.sql_meaning.specs.Expressions.{ColumnRef, IsEqual, BExpr, Cmp, bare_column, names}
 use Rattle.sql_meaning.specs.Expressions.{ref_expr, flat, BExprs, Nil, More, Any}
 use Rattle.sql_meaning.specs.Orders.{same_site, same_collation}
-use Rattle.sql_meaning.specs.Values.{Affinity, Integer, Real, Numeric, TextAffinity, BlobAffinity}
-use Rattle.sql_meaning.specs.Values.{Collation, Binary}
+use Rattle.sql_meaning.specs.Values.{Collation}
 use Rattle.sql_meaning.specs.Schemas.{Schema, columns_of}
 use Rattle.sql_meaning.specs.Items.{Item, own_column}
 use Rattle.sql_meaning.specs.Rows.{Site, AtRowid, AtColumn}
@@ -19,20 +19,16 @@ use Rattle.sql_meaning.specs.Terms.{Equals, Term, TermKind, Within, IsNothing, L
 use Rattle.sql_meaning.specs.Statements.{is_empty, Bound, exprs_of, numbers_from, table_of}
 use Rattle.sql_meaning.specs.Statements.{Conjunct, item_alias}
 use Rattle.sql_meaning.specs.Serving.{key_under, comparison_served, direct_terms, serving}
-use Rattle.sql_meaning.specs.Serving.{numbered_term, Served}
+use Rattle.sql_meaning.specs.Serving.{numbered_term, Served, or_served, first_served}
 use Rattle.sql_meaning.specs.Conjuncts.{may_derive, may_serve}
 use Rattle.sql_meaning.specs.OrderState.{columns_at}
+use Rattle.sql_meaning.specs.Fitting.{IsIndexOf}
+use Rattle.sql_meaning.specs.Links.{affinity_class}
+use Rattle.sql_meaning.specs.LikeTerms.{like_terms}
 use Rattle.sql_meaning.specs.Choices.{ColumnTerms, Offer, rowid_offer, seek_offer}
 
 abbrev pub same_ref : ColumnRef → ColumnRef → Bool
 same_ref c d = (c.item == d.item) && same_site c.site d.site
-
-abbrev pub class_number : Affinity → ℕ
-class_number Integer = 0
-class_number Real = 0
-class_number Numeric = 0
-class_number TextAffinity = 1
-class_number BlobAffinity = 2
 
 pub record Pair : Type 0 where
   pub first : ColumnRef
@@ -44,8 +40,8 @@ owns_link schema items c d collation =
     not (c.item == d.item)
     && (same_collation (own_column schema items c).collation collation
     && (same_collation (own_column schema items d).collation collation
-    && (class_number (own_column schema items c).affinity
-    == class_number (own_column schema items d).affinity)))
+    && (affinity_class (own_column schema items c).affinity
+    == affinity_class (own_column schema items d).affinity)))
 
 -- the two columns that a comparison links
 abbrev pub pair_of : Schema → List Item → Option ColumnRef → Option ColumnRef → Collation
@@ -64,19 +60,21 @@ abbrev pub has_ref : ColumnRef → List ColumnRef → Bool
 has_ref c [] = false
 has_ref c (d ∷ ds) = same_ref d c || has_ref c ds
 
-abbrev pub add_if : Bool → ColumnRef → List ColumnRef → List ColumnRef
-add_if reached c seen = cond (reached && not (has_ref c seen)) (c ∷ seen) seen
+abbrev pub touches : ColumnRef → Pair → Bool
+touches c p = same_ref c p.first || same_ref c p.second
 
-abbrev pub extend : List Pair → List ColumnRef → List ColumnRef
-extend [] seen = seen
-extend (p ∷ ps) seen =
-    extend ps
-    (add_if (has_ref p.second (add_if (has_ref p.first seen) p.second seen)) p.first
-    (add_if (has_ref p.first seen) p.second seen))
+abbrev pub other_end : ColumnRef → Pair → ColumnRef
+other_end c p = cond (same_ref c p.first) p.second p.first
 
-abbrev pub reach : ℕ → List Pair → List ColumnRef → List ColumnRef
-reach zero ps seen = seen
-reach (suc n) ps seen = reach n ps (extend ps seen)
+-- the columns that links join with those that are to be visited, in the order of the visits: what
+-- links join with a column is to be visited next, and no link is gone along twice
+abbrev pub visits : ℕ → List ColumnRef → List Pair → List ColumnRef
+visits zero next ps = []
+visits (suc n) [] ps = []
+visits (suc n) (c ∷ next) ps =
+    c
+    ∷ visits n (map (other_end c) (filter (touches c) ps) ++ next)
+    (filter (λ p. not (touches c p)) ps)
 
 abbrev pub link_pairs : Schema → List Item → List BExpr → List Pair
 link_pairs schema items es = flat_map (link_pair schema items) es
@@ -89,13 +87,16 @@ site_number (AtColumn column) = column + 1
 abbrev pub ref_cmp : ColumnRef → ColumnRef → Ordering
 ref_cmp = then_cmp (on (λ c. c.item) nat_cmp) (on (λ c. site_number c.site) nat_cmp)
 
--- the columns that are linked with c but c itself, by item and column: each pass over the links
--- reaches one column more, or no pass does
+-- from a column there is one visit more than links at most
+abbrev pub visited : ColumnRef → List Pair → List ColumnRef
+visited c ps = visits (suc (length ps)) (c ∷ []) ps
+
+-- the columns that are linked with c but c itself, by item and column, each once
 abbrev pub linked_to : Schema → List Item → List BExpr → ColumnRef → List ColumnRef
 linked_to schema items es c =
-    sort_by ref_cmp
-    (filter (λ d. not (same_ref d c))
-    (reach (length (link_pairs schema items es)) (link_pairs schema items es) (c ∷ [])))
+    keep_first (eq_by_cmp ref_cmp) []
+    (sort_by ref_cmp
+    (filter (λ d. not (same_ref d c)) (visited c (link_pairs schema items es))))
 
 abbrev pub derived_term : Schema → List Item → ColumnRef → KeyExpr → Term
 derived_term schema items c key =
@@ -116,16 +117,21 @@ column_term schema items item c d =
     cond (d.item == item) []
     (derived_term schema items c (record { expr = ref_expr d; conversion = None }) ∷ [])
 
--- the equalities that follow for a column: `c = e` by conjunct number, then `c = d` by item and
--- column
-abbrev pub derived_terms : Schema → List Item → List BExpr → ℕ → ColumnRef → List Term
-derived_terms schema items es item c =
+-- the equalities that follow for a column of the columns that are linked with it: `c = e` by
+-- conjunct number, then `c = d` by item and column
+abbrev pub derived_along : Schema → List Item → List BExpr → ℕ → ColumnRef → List ColumnRef
+    → List Term
+derived_along schema items es item c linked =
     flat_map
     (λ e. flat_map
     (λ d. key_term schema items c
     (key_under d.site (own_column schema items c).collation (comparison_served d.item e)))
-    (linked_to schema items es c)) es
-    ++ flat_map (column_term schema items item c) (linked_to schema items es c)
+    linked) es
+    ++ flat_map (column_term schema items item c) linked
+
+abbrev pub derived_terms : Schema → List Item → List BExpr → ℕ → ColumnRef → List Term
+derived_terms schema items es item c =
+    derived_along schema items es item c (linked_to schema items es c)
 
 abbrev pub is_equal : TermKind → Bool
 is_equal (Equals key) = true
@@ -155,19 +161,28 @@ own_terms schema bound item =
     (λ site. (own_column schema bound.items (record { item = item; site = site })).collation) bound
     item 0 bound.conjuncts
 
--- of equality terms `=` and IS NULL come first, then derived ones, then IN
-abbrev pub column_terms : Schema → Bound → ℕ → Site → ColumnTerms
-column_terms schema bound item site = record {
+-- the bounds that follow from LIKEs, by conjunct number
+abbrev pub own_likes : Schema → Bound → ℕ → List Term
+own_likes schema bound item =
+    flat_map (λ c. like_terms schema bound.items item c.expr)
+    (filter (may_serve bound item) bound.conjuncts)
+
+-- of equality terms `=` and IS NULL come first, then derived ones, then IN; of bounds the direct
+-- ones, then those of a LIKE
+abbrev pub gathered : Site → List Term → List Term → List Term → ColumnTerms
+gathered site own derived likes = record {
   column = site;
-  equals =
-      of_kind is_equal site (own_terms schema bound item)
-      ++ (derived_terms schema bound.items
-      (exprs_of (filter (may_derive bound item) bound.conjuncts)) item
-      (record { item = item; site = site })
-      ++ of_kind is_within site (own_terms schema bound item));
-  lows = of_kind is_low site (own_terms schema bound item);
-  highs = of_kind is_high site (own_terms schema bound item);
+  equals = of_kind is_equal site own ++ (derived ++ of_kind is_within site own);
+  lows = of_kind is_low site own ++ of_kind is_low site likes;
+  highs = of_kind is_high site own ++ of_kind is_high site likes;
 }
+
+abbrev pub column_terms : Schema → Bound → ℕ → Site → ColumnTerms
+column_terms schema bound item site =
+    gathered site (own_terms schema bound item)
+    (derived_terms schema bound.items (exprs_of (filter (may_derive bound item) bound.conjuncts))
+    item (record { item = item; site = site }))
+    (own_likes schema bound item)
 
 abbrev pub all_sites : Schema → Bound → ℕ → List Site
 all_sites schema bound item =
@@ -176,12 +191,16 @@ all_sites schema bound item =
     (numbers_from 0
     (length (columns_of (slice_get schema.tables (table_of (slice_get bound.items item))))))
 
--- the terms of an item, by column; a column without a term is harmless
-abbrev pub item_terms : Schema → Bound → ℕ → List ColumnTerms
-item_terms schema bound item = map (column_terms schema bound item) (all_sites schema bound item)
+abbrev pub has_term : ColumnTerms → Bool
+has_term c = not (length (c.equals ++ (c.lows ++ c.highs)) == 0)
 
--- the terms of a branch of an OR, from the conjuncts of that branch alone; all have the number of
--- the OR
+-- the terms of an item, for each column that has one
+abbrev pub item_terms : Schema → Bound → ℕ → List ColumnTerms
+item_terms schema bound item =
+    filter has_term (map (column_terms schema bound item) (all_sites schema bound item))
+
+-- the direct terms of a branch of an OR, from the conjuncts of that branch alone; all have the
+-- number of the OR
 abbrev pub branch_own : Schema → Bound → ℕ → ℕ → List BExpr → List Term
 branch_own schema bound item number es =
     flat_map
@@ -190,30 +209,24 @@ branch_own schema bound item number es =
     (λ site. (own_column schema bound.items (record { item = item; site = site })).collation) item
     e)) es
 
+abbrev pub branch_likes : Schema → Bound → ℕ → List BExpr → List Term
+branch_likes schema bound item es = flat_map (like_terms schema bound.items item) es
+
 abbrev pub derived_if : Bool → List Term → List Term
 derived_if true ts = ts
 derived_if false ts = []
 
 abbrev pub branch_column : Schema → Bound → Conjunct → ℕ → ℕ → List BExpr → Site → ColumnTerms
-branch_column schema bound c item number es site = record {
-  column = site;
-  equals =
-      of_kind is_equal site (branch_own schema bound item number es)
-      ++ (derived_if (may_derive bound item c)
-      (derived_terms schema bound.items es item (record { item = item; site = site }))
-      ++ of_kind is_within site (branch_own schema bound item number es));
-  lows = of_kind is_low site (branch_own schema bound item number es);
-  highs = of_kind is_high site (branch_own schema bound item number es);
-}
+branch_column schema bound c item number es site =
+    gathered site (branch_own schema bound item number es)
+    (derived_if (may_derive bound item c)
+    (derived_terms schema bound.items es item (record { item = item; site = site })))
+    (branch_likes schema bound item es)
 
 abbrev pub branch_terms : Schema → Bound → Conjunct → ℕ → ℕ → BExpr → List ColumnTerms
 branch_terms schema bound c item number e =
-    map (branch_column schema bound c item number (flat e)) (all_sites schema bound item)
-
-abbrev pub has_terms : List ColumnTerms → Bool
-has_terms [] = false
-has_terms (c ∷ cs) =
-    not (length (c.equals ++ (c.lows ++ c.highs)) == 0) || has_terms cs
+    filter has_term
+    (map (branch_column schema bound c item number (flat e)) (all_sites schema bound item))
 
 -- an OR with the terms of each of its branches
 pub record OrTerm : Type 0 where
@@ -223,7 +236,8 @@ pub record OrTerm : Type 0 where
 abbrev pub if_each_has_terms : List ColumnTerms → Option (List (List ColumnTerms))
     → Option (List (List ColumnTerms))
 if_each_has_terms terms None = None
-if_each_has_terms terms (Some others) = cond (has_terms terms) (Some (terms ∷ others)) None
+if_each_has_terms terms (Some others) =
+    cond (not (length terms == 0)) (Some (terms ∷ others)) None
 
 abbrev pub terms_of_branches : Schema → Bound → Conjunct → ℕ → ℕ → BExprs
     → Option (List (List ColumnTerms))
@@ -243,7 +257,7 @@ unless_served (Some served) terms = []
 -- an OR is an OR term of the item where it is no IN term of it and each branch has a term
 abbrev pub or_terms_of : Schema → Bound → Conjunct → ℕ → ℕ → BExpr → List OrTerm
 or_terms_of schema bound c item number (Any es) =
-    unless_served (serving (λ site. Binary) item (Any es))
+    unless_served (or_served item es (first_served item es))
     (or_term number (terms_of_branches schema bound c item number es))
 or_terms_of schema bound c item number e = []
 
@@ -257,11 +271,24 @@ or_terms_from schema bound item number (c ∷ cs) =
 abbrev pub or_terms : Schema → Bound → ℕ → List OrTerm
 or_terms schema bound item = or_terms_from schema bound item 0 bound.conjuncts
 
--- the offer is a seek with the terms of this branch alone: by rowid, or by an index
+-- the terms of an item, column by column, and its OR terms
+pub record ItemTerms : Type 0 where
+  pub columns : List ColumnTerms
+  pub ors : List OrTerm
+
+abbrev pub terms_of_item : Schema → Bound → ℕ → ItemTerms
+terms_of_item schema bound item =
+    record { columns = item_terms schema bound item; ors = or_terms schema bound item }
+
+-- for each item of the statement
+abbrev pub terms_of : Schema → Bound → List ItemTerms
+terms_of schema bound = map (terms_of_item schema bound) (numbers_from 0 (length bound.items))
+
+-- the offer is a seek with the terms of this branch alone: by rowid, or by an index of the table
 abbrev pub OffersBranch : Schema → Bound → Conjunct → List ℕ → ℕ → ℕ → BExpr → Offer → Type 0
 OffersBranch schema bound c placed item number e o =
     (rowid_offer placed (branch_terms schema bound c item number e) ≡ Some o)
-    ⊎ ((index : ℕ)
+    ⊎ ((index : ℕ) × IsIndexOf schema (table_of (slice_get bound.items item)) index
     × (seek_offer placed (item_alias schema bound item)
     (branch_terms schema bound c item number e) index
     (columns_at (slice_get schema.indexes index)) ≡ Some o))

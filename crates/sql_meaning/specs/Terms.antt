@@ -30,12 +30,12 @@ pub record Term : Type 0 where
   pub collation : Collation
   pub kind : TermKind
 
-abbrev pub keys_of : TermKind → List KeyExpr
-keys_of (Equals key) = key ∷ []
-keys_of (Within keys) = keys
-keys_of IsNothing = []
-keys_of (Low key inclusive) = key ∷ []
-keys_of (High key inclusive) = key ∷ []
+abbrev pub term_keys : TermKind → List KeyExpr
+term_keys (Equals key) = key ∷ []
+term_keys (Within keys) = keys
+term_keys IsNothing = []
+term_keys (Low key inclusive) = key ∷ []
+term_keys (High key inclusive) = key ∷ []
 
 -- the term is true of a value of its column
 abbrev pub kind_holds : Assignment → List Value → Collation → TermKind → Value → Bool
@@ -157,15 +157,18 @@ part_of IsNothing = Some NullKey
 part_of (Low key inclusive) = None
 part_of (High key inclusive) = None
 
+-- the one term whose key the edge is, or none where there is no edge
+abbrev pub EdgeFrom : (KeyExpr → Bool → TermKind) → Option ℕ → SortColumn → Option Edge → List Term
+    → Type 0
+EdgeFrom kind alias s None ts = ts ≡ []
+EdgeFrom kind alias s (Some e) ts =
+    (t : Term) × (ts ≡ t ∷ []) × MayUse alias s t × (t.kind ≡ kind e.key e.inclusive)
+
 abbrev pub LowFrom : Option ℕ → SortColumn → Option Edge → List Term → Type 0
-LowFrom alias s None ts = ts ≡ []
-LowFrom alias s (Some e) ts =
-    (t : Term) × (ts ≡ t ∷ []) × MayUse alias s t × (t.kind ≡ Low e.key e.inclusive)
+LowFrom = EdgeFrom Low
 
 abbrev pub HighFrom : Option ℕ → SortColumn → Option Edge → List Term → Type 0
-HighFrom alias s None ts = ts ≡ []
-HighFrom alias s (Some e) ts =
-    (t : Term) × (ts ≡ t ∷ []) × MayUse alias s t × (t.kind ≡ High e.key e.inclusive)
+HighFrom = EdgeFrom High
 
 -- these are the terms whose keys the parts and bounds are: a part on each of the first columns,
 -- then the bounds on the next

@@ -2,15 +2,17 @@
 use Rattle.std.specs.Prelude.{List, ℕ, Bool, true, ◌&&◌, [], ◌∷◌, false, ◌||◌, ◌≡◌, Option, Some}
 use Rattle.std.specs.Prelude.{slice_get, ◌⊎◌, None}
 use Rattle.std.specs.List.{AllByRecursion, filter}
-use Rattle.sql_meaning.specs.Terms.{Term, term_holds, FormCarries, keys_of, Serves}
+use Rattle.sql_meaning.specs.Terms.{Term, term_holds, FormCarries, term_keys, Serves}
 use Rattle.sql_meaning.specs.Values.{Value}
 use Rattle.sql_meaning.specs.Rows.{Assignment}
 use Rattle.sql_meaning.specs.Schemas.{Schema}
 use Rattle.sql_meaning.specs.Paths.{Paths, Nowhere, Then, form_of, is_union, Path, Union}
 use Rattle.sql_meaning.specs.Expressions.{names, BExpr, BExprs, Nil, More, flat, Any}
-use Rattle.sql_meaning.specs.Statements.{has_number, Conjunct, Bound, exprs_of}
+use Rattle.sql_meaning.specs.Paths.{KeyExpr}
+use Rattle.sql_meaning.specs.Statements.{all_in, Conjunct, Bound, exprs_of}
 use Rattle.sql_meaning.specs.Conjuncts.{may_serve, may_derive}
 use Rattle.sql_meaning.specs.Links.{Derives}
+use Rattle.sql_meaning.specs.LikeTerms.{like_terms}
 
 -- the terms whose keys a path carries; of a union, those of each branch
 pub data Used : Type 0 where
@@ -24,11 +26,6 @@ all_terms env params item (t ∷ ts) = term_holds env params item t && all_terms
 abbrev pub any_terms : Assignment → List Value → ℕ → List (List Term) → Bool
 any_terms env params item [] = false
 any_terms env params item (ts ∷ tss) = all_terms env params item ts || any_terms env params item tss
-
--- each used term holds; of a union, those of some branch do
-abbrev pub used_holds : Assignment → List Value → ℕ → Used → Bool
-used_holds env params item (AllOf ts) = all_terms env params item ts
-used_holds env params item (AnyOf tss) = any_terms env params item tss
 
 -- a branch of a union is no union
 abbrev pub BranchesCarry : Schema → Option ℕ → Paths → List (List Term) → Type 0
@@ -47,14 +44,19 @@ PathCarries schema alias path (AllOf ts) = FormCarries alias (form_of schema pat
 PathCarries schema alias path (AnyOf tss) = ⊥
 
 -- a term may be used where the items that its key names are placed
-abbrev pub KeysPlaced : List ℕ → Term → Type 0
-KeysPlaced placed t =
-    AllByRecursion (λ k. AllByRecursion (λ i. has_number i placed ≡ true) (names k.expr))
-    (keys_of t.kind)
+abbrev pub keys_in : List ℕ → List KeyExpr → Bool
+keys_in placed [] = true
+keys_in placed (k ∷ ks) = all_in (names k.expr) placed && keys_in placed ks
+
+abbrev pub is_usable : List ℕ → Term → Bool
+is_usable placed t = keys_in placed (term_keys t.kind)
+
+abbrev pub AreUsable : List ℕ → List Term → Type 0
+AreUsable placed ts = AllByRecursion (λ t. is_usable placed t ≡ true) ts
 
 abbrev pub UsedPlaced : List ℕ → Used → Type 0
-UsedPlaced placed (AllOf ts) = AllByRecursion (KeysPlaced placed) ts
-UsedPlaced placed (AnyOf tss) = AllByRecursion (λ ts. AllByRecursion (KeysPlaced placed) ts) tss
+UsedPlaced placed (AllOf ts) = AreUsable placed ts
+UsedPlaced placed (AnyOf tss) = AllByRecursion (AreUsable placed) tss
 
 -- a term that a conjunct serves, where this conjunct may serve the item
 pub record IsDirect (bound : Bound) (item : ℕ) (t : Term) : Type 0 where
@@ -65,19 +67,32 @@ pub record IsDirect (bound : Bound) (item : ℕ) (t : Term) : Type 0 where
   pub serves : Serves item t.column t.collation t.kind conjunct.expr
   pub numbered : t.conjunct ≡ Some number
 
--- each term of an item is a direct one or follows from common conjuncts
+-- a bound that follows from a LIKE, where this conjunct may serve the item
+pub record IsLikeTerm (schema : Schema) (bound : Bound) (item : ℕ) (t : Term) : Type 0 where
+  pub number : ℕ
+  pub conjunct : Conjunct
+  pub is : slice_get bound.conjuncts number ≡ Some conjunct
+  pub allowed : may_serve bound item conjunct ≡ true
+  pub at : ℕ
+  pub listed : slice_get (like_terms schema bound.items item conjunct.expr) at ≡ Some t
+
+-- each term of an item is a direct one, or has no conjunct: it follows from common conjuncts or
+-- from a LIKE
 abbrev pub IsTerm : Schema → Bound → ℕ → Term → Type 0
 IsTerm schema bound item t =
     IsDirect bound item t
     ⊎ ((t.conjunct ≡ None)
-    × Derives schema bound.items (exprs_of (filter (may_derive bound item) bound.conjuncts)) item t)
+    × (Derives schema bound.items (exprs_of (filter (may_derive bound item) bound.conjuncts)) item t
+    ⊎ IsLikeTerm schema bound item t))
 
 -- a term of a branch of an OR: the branch is a conjunct list of its own
 abbrev pub IsBranchTerm : Schema → Bound → Conjunct → ℕ → List BExpr → Term → Type 0
 IsBranchTerm schema bound c item es t =
     ((number : ℕ) × (e : BExpr) × (slice_get es number ≡ Some e)
     × Serves item t.column t.collation t.kind e)
-    ⊎ ((may_derive bound item c ≡ true) × Derives schema bound.items es item t)
+    ⊎ (((may_derive bound item c ≡ true) × Derives schema bound.items es item t)
+    ⊎ ((number at : ℕ) × (e : BExpr) × (slice_get es number ≡ Some e)
+    × (slice_get (like_terms schema bound.items item e) at ≡ Some t)))
 
 -- the terms of each branch come from the conjuncts of that branch alone
 abbrev pub AreBranchTerms : Schema → Bound → Conjunct → ℕ → BExprs → List (List Term) → Type 0
@@ -104,8 +119,8 @@ abbrev pub UsedComes : Schema → Bound → ℕ → Used → Type 0
 UsedComes schema bound item (AllOf ts) = AllByRecursion (IsTerm schema bound item) ts
 UsedComes schema bound item (AnyOf tss) = IsOrTerm schema bound item tss
 
--- a path consumes the conjuncts whose direct terms it uses; a derived term consumes nothing, nor
--- does a union
+-- a path consumes the conjuncts whose direct terms it uses; a term that follows consumes nothing,
+-- nor does a union
 abbrev pub Consumes : Used → ℕ → Type 0
 Consumes (AllOf ts) number =
     (k : ℕ) × (t : Term) × (slice_get ts k ≡ Some t) × (t.conjunct ≡ Some number)

@@ -81,18 +81,18 @@ units_of (Text bytes) = pos 0
 units_of (Blob bytes) = pos 0
 
 -- the key of a text, or a blob itself
-abbrev pub key_of : Collation → Value → List ℕ
-key_of coll Null = []
-key_of coll (Int number) = []
-key_of coll (Dec units) = []
-key_of coll (Text bytes) = text_key coll bytes
-key_of coll (Blob bytes) = bytes
+abbrev pub collation_key : Collation → Value → List ℕ
+collation_key coll Null = []
+collation_key coll (Int number) = []
+collation_key coll (Dec units) = []
+collation_key coll (Text bytes) = text_key coll bytes
+collation_key coll (Blob bytes) = bytes
 
 -- by class, then as numbers, then by key
 abbrev pub value_cmp : Collation → Value → Value → Ordering
 value_cmp coll =
     then_cmp (on class_of nat_cmp)
-    (then_cmp (on units_of int_cmp) (on (key_of coll) (slice_cmp nat_cmp)))
+    (then_cmp (on units_of int_cmp) (on (collation_key coll) (slice_cmp nat_cmp)))
 
 abbrev pub Before : Collation → Value → Value → Type 0
 Before coll v w = value_cmp coll v w ≡ Less

@@ -2,7 +2,7 @@
 //! They hold on every database of the schema, its indexes kept true, and for all parameters.
 
 ghost use Rattle.sql_meaning.specs.PlanLaws.{BlocksLeaveOutWhatFails, LoopsGiveTheRows};
-ghost use Rattle.sql_meaning.specs.PlanLaws.{OfferedPlansMean, PlansGiveTheOrder};
+ghost use Rattle.sql_meaning.specs.PlanLaws.{OfferedPlansFit, OfferedPlansMean, PlansGiveTheOrder};
 
 /// Let a block be a run of consecutive FROM items that aren't LEFT, with its loops together in a
 /// plan, and take any assignments of the items to its left, missing rows among them. Then the
@@ -23,6 +23,12 @@ pub fn loops_give_the_rows()
 /// A plan gives its rows in the order of ORDER BY, also where it doesn't sort.
 pub fn plans_give_the_order()
     ensures { PlansGiveTheOrder }
+{}
+
+/// A plan whose loops are offers fits the schema: its statement does, each item has one loop, each
+/// path fits the table of its item by keys of earlier loops, and what is consumed are conjuncts.
+pub fn offered_plans_fit()
+    ensures { OfferedPlansFit }
 {}
 
 /// A plan whose loops are offers, with the flags that its order state asks, means its statement: on

@@ -2,6 +2,7 @@
 //! that does nothing. They hold on every database of the schema, its indexes kept true; a placed
 //! item may have the missing row.
 
+ghost use Rattle.sql_meaning.specs.CellLaws.{WalksDependOnCells};
 ghost use Rattle.sql_meaning.specs.PathLaws.{ConsumedConjunctsHold, IndexListsAreSorted};
 ghost use Rattle.sql_meaning.specs.PathLaws.{UnionsHaveEachRowOnce, UnionsMissNoRow};
 ghost use Rattle.sql_meaning.specs.PathLaws.{WalksAreFilters};
@@ -25,4 +26,9 @@ pub fn walks_are_filters()
 pub fn unions_are_exact()
     ensures each_once { UnionsHaveEachRowOnce }
     ensures none_missed { UnionsMissNoRow }
+{}
+
+/// The walk of a path depends on the values of columns alone, however an assignment holds these.
+pub fn walks_depend_on_cells()
+    ensures { WalksDependOnCells }
 {}
