@@ -1,12 +1,32 @@
 //! Lists that grow at their end, and want of memory.
 ghost use Rattle.std.specs.Prelude.{◌≡◌, [], ◌∷◌, ◌++◌, OnOk, OnErr, IfOk};
 
-use std::alloc::{Allocator, Global};
+use std::alloc::{AllocError, AllocFailed, Allocator, Global};
 use std::marker::Model;
 
 /// Want of memory: an allocation was refused, and the call changed nothing that it was lent.
 #[derive(Clone, Copy, Debug, PartialEq, Eq)]
 pub struct Memory;
+
+impl From<AllocError> for Memory {
+    ghost use Rattle.std.specs.Prelude.{◌≡◌};
+
+    ghost from_gives = { λ _ fault. fault ≡ record {} };
+
+    fn from(_: AllocError) -> Memory {
+        Memory
+    }
+}
+
+impl<T: Drop> From<AllocFailed<T>> for Memory {
+    ghost use Rattle.std.specs.Prelude.{◌≡◌};
+
+    ghost from_gives = { λ _ fault. fault ≡ record {} };
+
+    fn from(_: AllocFailed<T>) -> Memory {
+        Memory
+    }
+}
 
 /// A list that grows at its end.
 #[derive(Drop)]
@@ -40,10 +60,7 @@ impl<T: Drop> Items<T> {
         ensures ok { OnOk result (self.new ≡ self.old ++ item ∷ []) }
         ensures err { OnErr result (self.new ≡ self.old) }
     {
-        match self.held.push(item) {
-            Ok(()) => Ok(()),
-            Err(_) => Err(Memory),
-        }
+        Ok(self.held.push(item)?)
     }
 
     /// The list.
@@ -59,10 +76,9 @@ impl Items<u8> {
     pub fn copy(alloc: Global, from: &[u8]) -> Result<Bytes, Memory>
         ensures { IfOk result (λ bytes. bytes ≡ from.now) }
     {
-        match Vec::from_slice(alloc, from) {
-            Ok(held) => Ok(Items { held }),
-            Err(_) => Err(Memory),
-        }
+        Ok(Items {
+            held: Vec::from_slice(alloc, from)?,
+        })
     }
 
     /// Appends a slice. After `Memory` the list is as it was.
@@ -70,10 +86,7 @@ impl Items<u8> {
         ensures ok { OnOk result (self.new ≡ self.old ++ piece.now) }
         ensures err { OnErr result (self.new ≡ self.old) }
     {
-        match self.held.extend_from_slice(piece) {
-            Ok(()) => Ok(()),
-            Err(_) => Err(Memory),
-        }
+        Ok(self.held.extend_from_slice(piece)?)
     }
 }
 
@@ -82,8 +95,5 @@ pub fn push<T: Copy, A: Allocator>(list: &mut Vec<T, A>, item: T) -> Result<(), 
     ensures ok { OnOk result (list.new.items ≡ list.old.items ++ item ∷ []) }
     ensures err { OnErr result (list.new.items ≡ list.old.items) }
 {
-    match list.push(item) {
-        Ok(()) => Ok(()),
-        Err(_) => Err(Memory),
-    }
+    Ok(list.push(item)?)
 }

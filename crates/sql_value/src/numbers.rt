@@ -126,10 +126,7 @@ pub fn last_digit_units(places: usize) -> u64
 pub(crate) fn int_text(alloc: Global, number: i64) -> Result<Bytes, Memory>
     ensures { IfOk result (λ text. text ≡ signed_decimal number) }
 {
-    match format!(in alloc; "{number}") {
-        Ok(text) => Bytes::copy(alloc, text.as_bytes()),
-        Err(_) => Err(Memory),
-    }
+    Bytes::copy(alloc, format!(in alloc; "{number}")?.as_bytes())
 }
 
 /// The sign, whole part, point and fraction of a decimal.
