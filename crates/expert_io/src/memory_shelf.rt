@@ -132,6 +132,7 @@ impl Shelf for MemoryShelf {
             × (self.new.faults ≡ self.old.faults) }
         ensures failed { OnErr result (Lacks (Some self.old.files) name.now
             ⊎ Rose self.old.faults self.new.faults) }
+        ensures bounded { self.new.faults < 2 ^ 64 }
 
         // It fails exactly at a listed call and where no file has the name.
         ensures exactly { IsErr result ↔ ((file_of self.old.files name.now ≡ None)
@@ -160,6 +161,7 @@ impl Shelf for MemoryShelf {
         ensures bound { ReadsAtMost result buf.new }
         ensures bytes { ReadConsumes (Some self.old.left) (Some self.new.left) result buf.new }
         ensures cause { HasCause self.old.faults self.new.faults result }
+        ensures bounded { self.new.faults < 2 ^ 64 }
 
         // It fails exactly at a listed call, and gives as much as the buffer, the file and the
         // bound allow.

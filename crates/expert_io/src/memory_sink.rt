@@ -1,6 +1,6 @@
 //! A sink in memory.
-ghost use Rattle.std.specs.Prelude.{◌≡◌, ◌≤◌, ◌<◌, ◌-◌, ◌⊎◌, ◌↔◌, [], Some, IfOk, OnErr, IsErr};
-ghost use Rattle.std.specs.Prelude.{length, min, vec_len, vec_capacity};
+ghost use Rattle.std.specs.Prelude.{◌≡◌, ◌≤◌, ◌<◌, ◌^◌, ◌-◌, ◌⊎◌, ◌↔◌, [], Some, IfOk, OnErr};
+ghost use Rattle.std.specs.Prelude.{IsErr, length, min, vec_len, vec_capacity};
 ghost use Rattle.std.specs.Io.KnownBytes.{WriteAppends};
 ghost use Rattle.expert_io.specs.Faults.{HasCause};
 ghost use Rattle.expert_io.specs.Objects.{Sunk, raised, IsListed};
@@ -53,17 +53,15 @@ impl MemorySink {
               faults = 0;
             }) }
     {
-        match Vec::with_capacity(alloc, room as usize) {
-            Ok(held) => Ok(MemorySink {
-                held,
-                room: room as usize,
-                failing,
-                most,
-                calls: 0,
-                faults: 0,
-            }),
-            Err(_) => Err(Memory),
-        }
+        let held = Vec::with_capacity(alloc, room as usize)?;
+        Ok(MemorySink {
+            held,
+            room: room as usize,
+            failing,
+            most,
+            calls: 0,
+            faults: 0,
+        })
     }
 
     /// What was written.
@@ -85,6 +83,7 @@ impl Sink for MemorySink {
         ensures bytes { WriteAppends (Some self.old.written)
             (Some self.new.written) result piece.now }
         ensures cause { HasCause self.old.faults self.new.faults result }
+        ensures bounded { self.new.faults < 2 ^ 64 }
 
         // It fails exactly at a listed call, and where a piece that is not empty finds no room.
         ensures exactly { IsErr result ↔ (IsListed self.old.calls self.old.failing

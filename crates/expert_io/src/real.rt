@@ -1,5 +1,5 @@
 //! The real files and streams: the edge that is trusted, since nothing tells what they hold.
-ghost use Rattle.std.specs.Prelude.{None};
+ghost use Rattle.std.specs.Prelude.{◌≡◌, None};
 
 use crate::shelf::Shelf;
 use crate::sink::{Failed, Sink};
@@ -16,7 +16,10 @@ pub struct FileShelf<'a, R: Files> {
 }
 
 impl<'a, R: Files> FileShelf<'a, R> {
-    pub fn new(rt: &'a R) -> Self {
+    /// No file is open, and no fault is counted yet.
+    pub fn new(rt: &'a R) -> Self
+        ensures { result.faults ≡ 0 }
+    {
         FileShelf {
             rt,
             open: None,
@@ -33,6 +36,7 @@ impl<'a, R: Files> Shelf for FileShelf<'a, R> {
     ghost faults = { λ s. s.faults };
 
     fn open_file(&mut self, name: &[u8]) -> Result<(), Failed> {
+        let one_more = self.faults.saturating_add(1);
         self.open = None;
         if let Ok(path) = str::from_utf8(name) {
             if let Ok(file) = fs::open(self.rt, path) {
@@ -40,17 +44,18 @@ impl<'a, R: Files> Shelf for FileShelf<'a, R> {
                 return Ok(());
             }
         }
-        self.faults = self.faults.saturating_add(1);
+        self.faults = one_more;
         Err(Failed)
     }
 
     fn read(&mut self, buf: &mut [u8]) -> Result<usize, Failed> {
+        let one_more = self.faults.saturating_add(1);
         if let Some(file) = &mut self.open {
             if let Ok(n) = file.read(buf) {
                 return Ok(n);
             }
         }
-        self.faults = self.faults.saturating_add(1);
+        self.faults = one_more;
         Err(Failed)
     }
 }
@@ -63,7 +68,11 @@ pub struct StdSink<W: Write + Drop> {
 }
 
 impl<W: Write + Drop> StdSink<W> {
-    pub fn new(inner: W) -> Self {
+    /// Nothing is written yet, and no fault is counted.
+    pub fn new(inner: W) -> Self
+        ensures faults { result.faults ≡ 0 }
+        ensures written { W.contents result.inner ≡ W.contents inner }
+    {
         StdSink { inner, faults: 0 }
     }
 }
@@ -74,10 +83,11 @@ impl<W: Write + Drop> Sink for StdSink<W> {
     ghost faults = { λ s. s.faults };
 
     fn write(&mut self, piece: &[u8]) -> Result<usize, Failed> {
+        let one_more = self.faults.saturating_add(1);
         match self.inner.write(piece) {
             Ok(n) if n > 0 || piece.is_empty() => Ok(n),
             _ => {
-                self.faults = self.faults.saturating_add(1);
+                self.faults = one_more;
                 Err(Failed)
             }
         }

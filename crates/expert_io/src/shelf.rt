@@ -1,5 +1,6 @@
 //! A shelf of named files, of which one is open at a time.
-ghost use Rattle.std.specs.Prelude.{◌≡◌, ◌<◌, ◌≤◌, ◌⊎◌, ℕ, List, [], length, IsErr, IfOk, OnOk};
+ghost use Rattle.std.specs.Prelude.{◌≡◌, ◌<◌, ◌≤◌, ◌⊎◌, ◌+◌, ◌^◌, ℕ, List, [], length, drop};
+ghost use Rattle.std.specs.Prelude.{IsErr, IfOk, OnOk, Some};
 ghost use Rattle.std.specs.Prelude.{OnErr, IfSome, IsErrOf};
 ghost use Rattle.std.specs.declared.option.Option.{Option};
 ghost use Rattle.std.specs.Io.{ReadsAtMost};
@@ -8,8 +9,9 @@ ghost use Rattle.expert_io.specs.Faults.{Rose, HasCause};
 ghost use Rattle.expert_io.specs.Told.{File, file_of, Lacks};
 
 use crate::sink::Failed;
-use sql_value::Bytes;
+use sql_value::{Bytes, Memory};
 use std::alloc::Global;
+use thiserror::Error;
 
 /// How many bytes one read asks for, at most.
 const PIECE: u64 = 4096;
@@ -22,7 +24,7 @@ pub trait Shelf {
     // What reads of the file that was opened last will still give, where it is told.
     ghost left: { Self → Option (List ℕ) };
 
-    // How many calls failed for a reason of the outside. The count never falls.
+    // How many calls failed for a reason of the outside. The count never falls, and has 64 bits.
     ghost faults: { Self → ℕ };
 
     /// Opens the file of a name in place of the one that is open. It fails where a shelf that tells
@@ -37,7 +39,8 @@ pub trait Shelf {
         ensures lacks { Lacks (files self.old) name.now → IsErr result
             × (faults self.new ≡ faults self.old) }
         ensures failed { OnErr result (Lacks (files self.old) name.now
-            ⊎ Rose (faults self.old) (faults self.new)) };
+            ⊎ Rose (faults self.old) (faults self.new)) }
+        ensures bounded { faults self.new < 2 ^ 64 };
 
     /// Moves the next bytes of the open file into the front of the buffer and answers how many: 0
     /// for a buffer that is not empty says that the file ends here. It fails by a fault alone.
@@ -45,18 +48,32 @@ pub trait Shelf {
         ensures files { files self.new ≡ files self.old }
         ensures bound { ReadsAtMost result buf.new }
         ensures bytes { ReadConsumes (left self.old) (left self.new) result buf.new }
-        ensures cause { HasCause (faults self.old) (faults self.new) result };
+        ensures cause { HasCause (faults self.old) (faults self.new) result }
+        ensures bounded { faults self.new < 2 ^ 64 };
 }
 
 /// Why a file was not read.
-#[derive(Clone, Copy, Debug, PartialEq, Eq)]
+#[derive(Clone, Copy, Debug, PartialEq, Eq, Error)]
 pub enum ReadFault {
     /// The shelf has no such file, or a call of it failed.
+    #[error("the file can't be read")]
     Failed,
     /// The file has more bytes than the limit.
+    #[error("the file is too large")]
     TooLarge,
     /// Memory was wanting.
+    #[error("out of memory")]
     Memory,
+}
+
+impl From<Memory> for ReadFault {
+    ghost use Rattle.expert_io.specs.ReadFaults.{IsMemory};
+
+    ghost from_gives = { λ _ fault. IsMemory fault };
+
+    fn from(_: Memory) -> ReadFault {
+        ReadFault::Memory
+    }
 }
 
 // What is left of the open file, if it has at most `limit` bytes.
@@ -65,7 +82,7 @@ fn read_left<F: Shelf>(alloc: Global, shelf: &mut F, limit: u64) -> Result<Bytes
     ensures ok { IfOk result (λ bytes. IfSome (F.left shelf.old) (λ all. bytes ≡ all)
         × (length bytes ≤ limit)) }
     ensures too_large { IsErrOf result ReadFault.TooLarge → IfSome (F.left shelf.old)
-        (λ all. limit < length all) }
+        (λ all. (limit < length all) × (F.left shelf.new ≡ Some (drop (limit + 1) all))) }
     ensures later { F.faults shelf.old ≤ F.faults shelf.new }
     ensures failed_only { IsErrOf result ReadFault.Failed
         → Rose (F.faults shelf.old) (F.faults shelf.new) }
@@ -88,9 +105,7 @@ fn read_left<F: Shelf>(alloc: Global, shelf: &mut F, limit: u64) -> Result<Bytes
         if n as u64 > room {
             return Err(ReadFault::TooLarge);
         }
-        if bytes.append(&buf[..n]).is_err() {
-            return Err(ReadFault::Memory);
-        }
+        bytes.append(&buf[..n])?;
         room -= n as u64;
     }
 }
@@ -115,9 +130,11 @@ pub fn read_file<F: Shelf>(
     ensures failed_only { IsErrOf result ReadFault.Failed →
         Lacks (F.files shelf.old) name.now ⊎ Rose (F.faults shelf.old) (F.faults shelf.new) }
 
+    // A file that is too large is read up to its first byte behind the limit, and no further.
     ensures too_large_only { IsErrOf result ReadFault.TooLarge →
         IfSome (F.files shelf.old) (λ told. (bytes : List ℕ)
-        × (file_of told name.now ≡ Some bytes) × (limit < length bytes)) }
+        × (file_of told name.now ≡ Some bytes) × (limit < length bytes)
+        × (F.left shelf.new ≡ Some (drop (limit + 1) bytes))) }
 {
     match shelf.open_file(name) {
         Ok(()) => read_left(alloc, shelf, limit),
