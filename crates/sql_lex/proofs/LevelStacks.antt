@@ -1,6 +1,6 @@
 -- The stack in an array, and its levels.
 use Rattle.std.proofs.Common.{◌≡◌, ℕ, zero, suc, ◌+◌, ◌<◌, ◌≤◌, nat_lt, Bool, true, false, List, []}
-use Rattle.std.proofs.Common.{◌∷◌, length, map, drop, drop-cons, get_or, slice_set, subst, refl, ap}
+use Rattle.std.proofs.Common.{◌∷◌, length, map, drop, get_or, slice_set, subst, refl, ap}
 use Rattle.std.proofs.Common.{sym, ◌∙◌, arith, add-one, get_or-set_same, get_or-set_other}
 use Rattle.std.proofs.Common.{drop_of_length-le}
 use Rattle.std.proofs.lemmas.List.{length-map}
@@ -8,7 +8,8 @@ use Rattle.sql_tokens.specs.Terminals.{terminal_of}
 use Rattle.sql_tokens.specs.declared.token.Token.{Token}
 use Rattle.sql_lex.specs.Depth.{depth_step_of, depth_steps}
 use Rattle.sql_lex.specs.Depth.{stack_of, total, next_levels, base_level, depth_from, AllCounted}
-use Rattle.sql_lex.specs.Depth.{IsBased}
+use Rattle.sql_lex.specs.Depth.{IsBased, depth_limit}
+use Rattle.sql_lex.proofs.Fronts.{first_behind}
 use Rattle.sql_lex.specs.declared.depth.DepthStep.{DepthStep}
 use Rattle.sql_lex.specs.declared.depth.DepthStep.TheVariants as step
 use Rattle.sql_lex.specs.declared.depth.Level.{Level}
@@ -78,62 +79,56 @@ below_counted (l ∷ []) mid rest top below h e f = absurd (cc)
 below_counted (l ∷ k ∷ ls) mid rest top below h e f = let same : k ≡ below = cc in
     subst (λ (q : Level). 1 ≤ q.count) same h.0
 
-deep_now : (ls : List Level) (m : DepthStep) (ms : List DepthStep) → 200 < total (next_levels m ls)
-    → nat_lt 200 (depth_from ls (m ∷ ms)) ≡ true
+deep_now : (ls : List Level) (m : DepthStep) (ms : List DepthStep)
+    → depth_limit < total (next_levels m ls)
+    → nat_lt depth_limit (depth_from ls (m ∷ ms)) ≡ true
 unfolding depth_from
 deep_now ls m ms h = grind arith
 
 deep_later : (ls : List Level) (m : DepthStep) (ms : List DepthStep)
-    → total (next_levels m ls) ≤ 200
-    → nat_lt 200 (depth_from ls (m ∷ ms)) ≡ nat_lt 200 (depth_from (next_levels m ls) ms)
+    → total (next_levels m ls) ≤ depth_limit
+    → nat_lt depth_limit (depth_from ls (m ∷ ms))
+    ≡ nat_lt depth_limit (depth_from (next_levels m ls) ms)
 unfolding depth_from
 deep_later ls m ms h = grind arith
-
-step_first :
-    (steps : List DepthStep) (i : ℕ) (m : DepthStep)
-    → i < length steps
-    → m ≡ get_or steps i step.Open
-    → drop i steps ≡ m ∷ drop (i + 1) steps
-step_first steps i m lt is =
-    drop-cons steps i step.Open lt
-    ∙ ap (λ x. x ∷ drop (suc i) steps) (sym is)
-    ∙ ap (λ k. m ∷ drop k steps) (sym (add-one i))
 
 pub now :
     (steps : List DepthStep) (i : ℕ) (ls next : List Level) (m : DepthStep) (whole : Bool)
     → i < length steps
     → m ≡ get_or steps i step.Open
     → next ≡ next_levels m ls
-    → 200 < total next
-    → nat_lt 200 (depth_from ls (drop i steps)) ≡ whole
+    → depth_limit < total next
+    → nat_lt depth_limit (depth_from ls (drop i steps)) ≡ whole
     → true ≡ whole
 now steps i ls next m whole lt at is deep h =
     sym (deep_now ls m (drop (i + 1) steps)
-    (subst (λ (q : List Level). 200 < total q) is deep))
-    ∙ sym (ap (λ q. nat_lt 200 (depth_from ls q)) (step_first steps i m lt at)) ∙ h
+    (subst (λ (q : List Level). depth_limit < total q) is deep))
+    ∙ sym (ap (λ q. nat_lt depth_limit (depth_from ls q)) (first_behind steps i step.Open m lt at))
+    ∙ h
 
 pub later :
     (steps : List DepthStep) (i : ℕ) (ls next : List Level) (m : DepthStep) (whole : Bool)
     → i < length steps
     → m ≡ get_or steps i step.Open
     → next ≡ next_levels m ls
-    → total next ≤ 200
-    → nat_lt 200 (depth_from ls (drop i steps)) ≡ whole
-    → nat_lt 200 (depth_from next (drop (i + 1) steps)) ≡ whole
+    → total next ≤ depth_limit
+    → nat_lt depth_limit (depth_from ls (drop i steps)) ≡ whole
+    → nat_lt depth_limit (depth_from next (drop (i + 1) steps)) ≡ whole
 later steps i ls next m whole lt at is low h =
-    ap (λ q. nat_lt 200 (depth_from q (drop (i + 1) steps))) is
+    ap (λ q. nat_lt depth_limit (depth_from q (drop (i + 1) steps))) is
     ∙ sym (deep_later ls m (drop (i + 1) steps)
-    (subst (λ (q : List Level). total q ≤ 200) is low))
-    ∙ sym (ap (λ q. nat_lt 200 (depth_from ls q)) (step_first steps i m lt at)) ∙ h
+    (subst (λ (q : List Level). total q ≤ depth_limit) is low))
+    ∙ sym (ap (λ q. nat_lt depth_limit (depth_from ls q)) (first_behind steps i step.Open m lt at))
+    ∙ h
 
 pub over :
     (steps : List DepthStep) (i : ℕ) (ls : List Level) (whole : Bool)
     → length steps ≤ i
-    → nat_lt 200 (depth_from ls (drop i steps)) ≡ whole
+    → nat_lt depth_limit (depth_from ls (drop i steps)) ≡ whole
     → false ≡ whole
 unfolding depth_from
 over steps i ls whole ge h =
-    ap (λ q. nat_lt 200 (depth_from ls q)) (sym (drop_of_length-le steps ge)) ∙ h
+    ap (λ q. nat_lt depth_limit (depth_from ls q)) (sym (drop_of_length-le steps ge)) ∙ h
 
 -- a step for each token
 pub length-depth_steps :

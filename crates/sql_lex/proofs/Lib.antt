@@ -1,6 +1,6 @@
+pub mod Fronts
 pub mod StatementSteps
 pub mod RowWindows
 pub mod RowPasses
-pub mod FirstSomewhere
-pub mod TableParts
+pub mod FirstFitting
 pub mod LevelStacks

@@ -1,6 +1,6 @@
 -- All parentheses, a window at a time.
-use Rattle.std.proofs.Common.{◌≡◌, ℕ, suc, ◌+◌, ◌<◌, ◌≤◌, max, Bool, true, false, ◌||◌, List, []}
-use Rattle.std.proofs.Common.{◌∷◌, length, map, drop, drop-cons, get_or, add-one, drop_of_length-le}
+use Rattle.std.proofs.Common.{◌≡◌, ℕ, ◌+◌, ◌<◌, ◌≤◌, max, Bool, true, false, ◌||◌, List, []}
+use Rattle.std.proofs.Common.{◌∷◌, length, map, drop, get_or, drop_of_length-le}
 use Rattle.std.proofs.Common.{refl, ap, sym, ◌∙◌, arith}
 use Rattle.std.proofs.lemmas.List.{length-map}
 use Rattle.sql_tokens.specs.Terminals.{terminal_of}
@@ -8,6 +8,7 @@ use Rattle.sql_tokens.specs.declared.token.Token.{Token}
 use Rattle.sql_lex.specs.Rows.{room, step_of, row_steps}
 use Rattle.sql_lex.specs.Rows.{State, start, next_state, next_stack, finds, top_counts, top_from}
 use Rattle.sql_lex.specs.Rows.{counts, any_from, row_from, row_in, depth_behind, deepest_of}
+use Rattle.sql_lex.proofs.Fronts.{first_behind}
 use Rattle.sql_lex.specs.declared.row_values.RowStep.{RowStep}
 use Rattle.sql_lex.specs.declared.row_values.RowStep.TheVariants as step
 
@@ -98,10 +99,7 @@ pub deepest_turn :
     → max most (deepest_of d (drop i steps)) ≡ whole
     → max more (deepest_of e (drop (i + 1) steps)) ≡ whole
 deepest_turn steps i d e most more whole m lt le at is so h =
-    let front : drop i steps ≡ m ∷ drop (i + 1) steps =
-    drop-cons steps i step.Open lt
-    ∙ ap (λ x. x ∷ drop (suc i) steps) (sym at)
-    ∙ ap (λ k. m ∷ drop k steps) (sym (add-one i)) in
+    let front = first_behind steps i step.Open m lt at in
     let a = deepest_first d _ _ _ front in
     let b : deepest_of (depth_behind m d) (drop (i + 1) steps) ≡ deepest_of e (drop (i + 1) steps)
     = ap (λ k. deepest_of k (drop (i + 1) steps)) (sym is) in

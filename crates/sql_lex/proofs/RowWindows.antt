@@ -1,8 +1,9 @@
 -- The window and the stack.
-use Rattle.std.proofs.Common.{◌≡◌, ℕ, suc, ◌+◌, ◌-◌, ◌<◌, ◌≤◌, Bool, true, false, ◌||◌, List, []}
-use Rattle.std.proofs.Common.{◌∷◌, length, drop, drop-cons, get_or, slice_set, refl, ap, sym, ◌∙◌}
-use Rattle.std.proofs.Common.{arith, add-one, get_or-set_same, get_or-set_other, drop_of_length-le}
+use Rattle.std.proofs.Common.{◌≡◌, ℕ, ◌+◌, ◌-◌, ◌<◌, ◌≤◌, Bool, true, false, ◌||◌, List, []}
+use Rattle.std.proofs.Common.{◌∷◌, length, drop, get_or, slice_set, refl, ap, sym, ◌∙◌}
+use Rattle.std.proofs.Common.{arith, get_or-set_same, get_or-set_other, drop_of_length-le}
 use Rattle.sql_lex.specs.Rows.{room, State, next_state, finds, row_from, Kept, Follows}
+use Rattle.sql_lex.proofs.Fronts.{first_behind}
 use Rattle.sql_lex.specs.declared.row_values.RowStep.{RowStep}
 use Rattle.sql_lex.specs.declared.row_values.RowStep.TheVariants as step
 use Rattle.sql_lex.specs.declared.row_values.Window.{Window}
@@ -98,10 +99,7 @@ step_first :
     → row_from base s (drop i steps)
     ≡ (seen || row_from base (next_state m s) (drop (i + 1) steps))
 step_first base other s steps i m seen lt same is sees =
-    let front : drop i steps ≡ m ∷ drop (i + 1) steps =
-    drop-cons steps i step.Open lt
-    ∙ ap (λ x. x ∷ drop (suc i) steps) (sym is)
-    ∙ ap (λ k. m ∷ drop k steps) (sym (add-one i)) in
+    let front = first_behind steps i step.Open m lt is in
     from_first base s _ _ _ seen front (ap (λ b. finds b s m) (sym same) ∙ sym sees)
 
 pub row_hit :

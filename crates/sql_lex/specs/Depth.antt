@@ -11,6 +11,10 @@ use Rattle.sql_lex.specs.declared.depth.DepthStep.{DepthStep}
 use Rattle.sql_lex.specs.declared.depth.DepthStep.TheVariants as step
 use Rattle.sql_lex.specs.declared.depth.Level.{Level}
 
+-- how deep a statement may nest
+abbrev pub depth_limit : ℕ
+depth_limit = 200
+
 -- words behind which an expression begins anew
 unfoldable pub begins_anew : Option Terminal → Bool
 begins_anew there =

@@ -1,94 +1,117 @@
--- The table of what isn't read, in order, and the first entry that a statement has.
-use Rattle.std.specs.Prelude.{ℕ, ◌+◌, Bool, not, ◌&&◌, nat_lt, cond, Option, None, Some}
-use Rattle.std.specs.Prelude.{List, [], ◌∷◌, ◌++◌, map, length, slice_get}
+-- Where each construct stands that isn't read.
+use Rattle.std.specs.Prelude.{Bool, false, not, ◌&&◌, ◌||◌, is_none, Some, List, [], ◌∷◌, slice_get}
 use Rattle.std.specs.List.{list_any}
 use Rattle.sql_value.specs.declared.keywords.Keyword.TheVariants as keyword
-use Rattle.sql_tokens.specs.Terminals.{terminal_of}
+use Rattle.sql_tokens.specs.declared.symbols.Symbol.TheVariants as symbol
 use Rattle.sql_tokens.specs.declared.terminal.Terminal.{Terminal}
-use Rattle.sql_tokens.specs.declared.token.Token.{Token}
-use Rattle.sql_lex.specs.Looks.{is_keyword}
-use Rattle.sql_lex.specs.Places.{somewhere, first_true}
-use Rattle.sql_lex.specs.Rows.{has_row_value}
-use Rattle.sql_lex.specs.StatementPatterns.{fits_insert, fits_with, fits_values}
-use Rattle.sql_lex.specs.StatementPatterns.{fits_other_statement, statement_tests}
-use Rattle.sql_lex.specs.ExpressionPatterns.{fits_subquery, fits_compound, fits_window, fits_case}
-use Rattle.sql_lex.specs.ExpressionPatterns.{fits_cast, fits_like, fits_glob, fits_regexp}
-use Rattle.sql_lex.specs.ExpressionPatterns.{fits_match, fits_current_time, expression_tests}
-use Rattle.sql_lex.specs.OperatorPatterns.{fits_function, fits_group_by, fits_distinct, fits_is}
-use Rattle.sql_lex.specs.OperatorPatterns.{fits_concatenation, fits_bit_operator}
-use Rattle.sql_lex.specs.OperatorPatterns.{fits_json_operator, fits_arithmetic, operator_tests}
-use Rattle.sql_lex.specs.JoinPatterns.{fits_right_join, fits_full_join, fits_natural_join}
-use Rattle.sql_lex.specs.JoinPatterns.{fits_left_join, fits_using, fits_parenthesized_join}
-use Rattle.sql_lex.specs.JoinPatterns.{join_tests}
-use Rattle.sql_lex.specs.ClausePatterns.{fits_indexed_by, fits_returning, fits_update_from}
-use Rattle.sql_lex.specs.ClausePatterns.{fits_update_or, fits_limit_on_change, fits_nulls}
-use Rattle.sql_lex.specs.ClausePatterns.{fits_qualified_table, clause_tests}
-use Rattle.sql_lex.specs.declared.places.Place.{Place}
-use Rattle.sql_lex.specs.declared.entry_names.Foreign.{Foreign}
-use Rattle.sql_lex.specs.declared.foreign_entries.Part.{Part}
-use Rattle.sql_lex.specs.declared.foreign_entries.Part.TheVariants as part
+use Rattle.sql_lex.specs.Looks.{is_keyword, is_symbol, is_keyword_among, is_symbol_among}
+use Rattle.sql_lex.specs.Looks.{is_free_word, is_name, is_number, is_operand_end}
+use Rattle.sql_lex.specs.declared.constructs.Foreign.{Foreign}
+use Rattle.sql_lex.specs.declared.constructs.Foreign.TheVariants as foreign
+use Rattle.sql_lex.specs.declared.contexts.Context.{Context}
+
+-- the statement is none of a query, an UPDATE and a DELETE
+unfoldable pub fits_other_statement : Context → Bool
+fits_other_statement c =
+    is_keyword_among
+    (keyword.Create ∷ keyword.Drop ∷ keyword.Alter ∷ keyword.Pragma ∷ keyword.Begin
+    ∷ keyword.Commit ∷ keyword.End ∷ keyword.Rollback ∷ keyword.Savepoint ∷ keyword.Release
+    ∷ keyword.Attach ∷ keyword.Detach ∷ keyword.Analyze ∷ keyword.Reindex ∷ keyword.Vacuum
+    ∷ keyword.Explain ∷ []) c.first
+
+-- a query in parentheses, EXISTS, or IN without a list
+unfoldable pub fits_subquery : Context → Bool
+fits_subquery c =
+    (is_symbol symbol.OpenParenthesis c.here
+    && is_keyword_among (keyword.Select ∷ keyword.With ∷ keyword.Values ∷ []) c.next)
+    || is_keyword keyword.Exists c.here
+    || (is_keyword keyword.In c.here && not (is_symbol symbol.OpenParenthesis c.next))
+
+-- a window, or a function over one or with a filter
+unfoldable pub fits_window_function : Context → Bool
+fits_window_function c =
+    is_keyword keyword.Window c.here
+    || (is_symbol symbol.CloseParenthesis c.here
+    && is_keyword_among (keyword.Over ∷ keyword.Filter ∷ []) c.next
+    && is_symbol symbol.OpenParenthesis c.second)
+
+-- IS with neither NULL nor NOT NULL behind it
+unfoldable pub fits_is : Context → Bool
+fits_is c =
+    is_keyword keyword.Is c.here
+    && not (is_keyword keyword.Null c.next
+    || (is_keyword keyword.Not c.next && is_keyword keyword.Null c.second))
+
+-- an operator on numbers: not the `*` of a result, nor a sign before a number or an operand
+unfoldable pub fits_arithmetic : Context → Bool
+fits_arithmetic c =
+    is_symbol_among (symbol.Slash ∷ symbol.Percent ∷ []) c.here
+    || (is_symbol symbol.Star c.here
+    && not (is_keyword_among (keyword.Select ∷ keyword.All ∷ []) c.before
+    || is_symbol_among (symbol.Comma ∷ symbol.Point ∷ symbol.OpenParenthesis ∷ []) c.before))
+    || (is_symbol_among (symbol.Plus ∷ symbol.Minus ∷ []) c.here && is_operand_end c.before)
+    || (is_symbol symbol.Minus c.here && not (is_number c.next))
+
+-- a table's name behind that of its database; or a column's behind both
+unfoldable pub fits_qualified_table : Context → Bool
+fits_qualified_table c =
+    (is_keyword_among (keyword.From ∷ keyword.Join ∷ keyword.Update ∷ []) c.here
+    && is_name c.next && is_symbol symbol.Point c.second)
+    || (is_name c.here && is_symbol symbol.Point c.next
+    && is_name c.second && is_symbol symbol.Point c.third && is_name c.fourth)
+
+-- A construct stands at a place. Rows of values and the want of a FROM are asked of the whole.
+unfoldable pub fits : Foreign → Context → Bool
+fits foreign.Insert c = is_keyword_among (keyword.Insert ∷ keyword.Replace ∷ []) c.first
+fits foreign.With c = is_keyword keyword.With c.first
+fits foreign.Values c = is_keyword keyword.Values c.first
+fits foreign.OtherStatement c = fits_other_statement c
+fits foreign.Subquery c = fits_subquery c
+fits foreign.CompoundSelect c =
+    is_keyword_among (keyword.Union ∷ keyword.Intersect ∷ keyword.Except ∷ []) c.here
+fits foreign.WindowFunction c = fits_window_function c
+fits foreign.Case c = is_keyword keyword.Case c.here
+fits foreign.Cast c = is_keyword keyword.Cast c.here && is_symbol symbol.OpenParenthesis c.next
+fits foreign.LikeEscape c = is_keyword keyword.Escape c.here
+fits foreign.Glob c = is_keyword keyword.Glob c.here
+fits foreign.Regexp c = is_keyword keyword.Regexp c.here
+fits foreign.Match c = is_keyword keyword.Match c.here
+fits foreign.CurrentTime c =
+    is_keyword_among
+    (keyword.CurrentDate ∷ keyword.CurrentTime ∷ keyword.CurrentTimestamp ∷ []) c.here
+fits foreign.Function c = is_free_word c.here && is_symbol symbol.OpenParenthesis c.next
+fits foreign.GroupBy c = is_keyword_among (keyword.Group ∷ keyword.Having ∷ []) c.here
+fits foreign.Distinct c = is_keyword keyword.Select c.here && is_keyword keyword.Distinct c.next
+fits foreign.Is c = fits_is c
+fits foreign.Concatenation c = is_symbol symbol.Concatenation c.here
+fits foreign.BitOperator c =
+    is_symbol_among
+    (symbol.BitOr ∷ symbol.BitAnd ∷ symbol.ShiftLeft ∷ symbol.ShiftRight ∷ symbol.BitNot ∷ [])
+    c.here
+fits foreign.JsonOperator c = is_symbol_among (symbol.Arrow ∷ symbol.LongArrow ∷ []) c.here
+fits foreign.Arithmetic c = fits_arithmetic c
+fits foreign.RightJoin c = is_keyword keyword.Right c.here
+fits foreign.FullJoin c = is_keyword keyword.Full c.here
+fits foreign.NaturalJoin c = is_keyword keyword.Natural c.here
+fits foreign.Using c = is_keyword keyword.Using c.here
+fits foreign.ParenthesizedJoin c =
+    is_keyword_among (keyword.From ∷ keyword.Join ∷ []) c.here
+    && is_symbol symbol.OpenParenthesis c.next
+fits foreign.RowValue c = false
+fits foreign.IndexedBy c = is_keyword keyword.Indexed c.here
+fits foreign.Returning c = is_keyword keyword.Returning c.here
+fits foreign.UpdateFrom c = is_keyword keyword.Update c.first && is_keyword keyword.From c.here
+fits foreign.UpdateOr c =
+    is_none c.before && is_keyword keyword.Update c.here && is_keyword keyword.Or c.next
+fits foreign.LimitOnChange c =
+    is_keyword_among (keyword.Update ∷ keyword.Delete ∷ []) c.first
+    && is_keyword_among (keyword.Order ∷ keyword.Limit ∷ []) c.here
+fits foreign.NullsFirstOrLast c = is_keyword keyword.Nulls c.here
+fits foreign.QualifiedTable c = fits_qualified_table c
+fits foreign.SelectWithoutFrom c = false
 
 -- the statement is a query without a FROM
 abbrev pub lacks_from : List Terminal → Bool
 lacks_from ts =
     is_keyword keyword.Select (slice_get ts 0)
     && not (list_any (λ t. is_keyword keyword.From (Some t)) ts)
-
--- the table, in order
-unfoldable pub table : List (List Terminal → Bool)
-table =
-    somewhere fits_insert ∷
-    somewhere fits_with ∷
-    somewhere fits_values ∷
-    somewhere fits_other_statement ∷
-    somewhere fits_subquery ∷
-    somewhere fits_compound ∷
-    somewhere fits_window ∷
-    somewhere fits_case ∷
-    somewhere fits_cast ∷
-    somewhere fits_like ∷
-    somewhere fits_glob ∷
-    somewhere fits_regexp ∷
-    somewhere fits_match ∷
-    somewhere fits_current_time ∷
-    somewhere fits_function ∷
-    somewhere fits_group_by ∷
-    somewhere fits_distinct ∷
-    somewhere fits_is ∷
-    somewhere fits_concatenation ∷
-    somewhere fits_bit_operator ∷
-    somewhere fits_json_operator ∷
-    somewhere fits_arithmetic ∷
-    somewhere fits_right_join ∷
-    somewhere fits_full_join ∷
-    somewhere fits_natural_join ∷
-    somewhere fits_left_join ∷
-    somewhere fits_using ∷
-    somewhere fits_parenthesized_join ∷
-    has_row_value ∷
-    somewhere fits_indexed_by ∷
-    somewhere fits_returning ∷
-    somewhere fits_update_from ∷
-    somewhere fits_update_or ∷
-    somewhere fits_limit_on_change ∷
-    somewhere fits_nulls ∷
-    somewhere fits_qualified_table ∷
-    lacks_from ∷
-    []
-
--- the entries before the one on rows
-unfoldable pub early_tests : List (Place → Bool)
-early_tests = statement_tests ++ (expression_tests ++ (operator_tests ++ join_tests))
-
-abbrev pub tests_of : Part → List (Place → Bool)
-tests_of part.Early = early_tests
-tests_of part.Late = clause_tests
-
-abbrev pub entry_numbered : ℕ → ℕ → Option Foreign
-entry_numbered n count = cond (nat_lt n count) (Some (record { entry = n + 1 })) None
-
--- the first entry of the table that a statement has
-unfoldable pub foreign_of : List ℕ → List Token → Option Foreign
-foreign_of text tokens =
-    let seen = map (terminal_of text) tokens in
-    entry_numbered (first_true (map (λ matches. matches seen) table)) (length table)

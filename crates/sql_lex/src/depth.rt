@@ -1,7 +1,7 @@
 //! How deep a statement nests.
 ghost use Rattle.std.specs.Prelude.{◌≡◌, ◌<◌, ◌≤◌, ◌+◌, nat_lt, length, [], ◌∷◌, slice_index_or};
 ghost use Rattle.sql_lex.specs.Depth.{depth_step_of, depth_steps, next_levels, total, depth_of};
-ghost use Rattle.sql_lex.specs.Depth.{IsBased, base_level, begins_anew};
+ghost use Rattle.sql_lex.specs.Depth.{IsBased, base_level, begins_anew, depth_limit};
 
 use crate::looks::{is_keyword, is_keyword_among, is_symbol};
 use sql_tokens::{Symbol, Terminal, Token, terminal_at};
@@ -20,6 +20,13 @@ enum DepthStep {
     Other,
 }
 
+/// How deep a statement may nest.
+const DEPTH_LIMIT: u32 = 200;
+
+/// How many levels a statement within the limit has at most, and one more: each level below the
+/// innermost has counted its parenthesis.
+const MOST_LEVELS: usize = DEPTH_LIMIT as usize + 2;
+
 /// What is counted inside one pair of parentheses, and whether a BETWEEN waits for its AND.
 #[derive(Clone, Copy)]
 pub(crate) struct Level {
@@ -27,11 +34,10 @@ pub(crate) struct Level {
     pub(crate) waits: bool,
 }
 
-/// A stack of levels, the innermost first. As each level below the top has counted its
-/// parenthesis, 202 are enough for a sum of 200.
+/// A stack of levels, the innermost first.
 #[derive(Drop)]
 struct Levels {
-    levels: [Level; 202],
+    levels: [Level; MOST_LEVELS],
     len: usize,
     sum: u32,
 }
@@ -39,13 +45,14 @@ struct Levels {
 impl Model for Levels {
     ghost use Rattle.std.specs.Prelude.{◌≡◌, ◌≤◌, List};
     ghost use Rattle.sql_lex.specs.declared.depth.Level.{Level};
+    ghost use Rattle.sql_lex.specs.declared.depth.TheConstants.{MOST_LEVELS};
     ghost use Rattle.sql_lex.specs.Depth.{stack_of, total};
 
     ghost Value = { List Level };
 
     ghost view = { λ s. stack_of s.levels s.len };
 
-    ghost invariant = { λ s. (s.len ≤ 202) × (s.sum ≡ total (stack_of s.levels s.len)) };
+    ghost invariant = { λ s. (s.len ≤ MOST_LEVELS) × (s.sum ≡ total (stack_of s.levels s.len)) };
 }
 
 impl Levels {
@@ -59,7 +66,7 @@ impl Levels {
             levels: [Level {
                 count: 0,
                 waits: false,
-            }; 202],
+            }; MOST_LEVELS],
             len: 1,
             sum: 0,
         }
@@ -86,7 +93,7 @@ impl Levels {
 
     #[tactic(auto, using(crate::proofs::LevelStacks::stack_steps))]
     fn push(&mut self, level: Level)
-        requires room { length self.old < 202 }
+        requires room { length self.old < MOST_LEVELS }
         requires small { total self.old + level.count < 2 ^ 32 }
         ensures { self.new ≡ level ∷ self.old }
     {
@@ -140,7 +147,7 @@ fn begins_anew(there: Option<Terminal>) -> bool
 
 /// The stack behind a token.
 fn take_step(levels: &mut Levels, step: DepthStep)
-    requires room { length levels.old < 202 }
+    requires room { length levels.old < MOST_LEVELS }
     requires small { total levels.old < 1000 }
     requires based { IsBased levels.old }
     ensures { levels.new ≡ next_levels step levels.old }
@@ -194,18 +201,18 @@ fn step_at(text: &[u8], tokens: &[Token], place: usize) -> DepthStep
     step_of(terminal_at(text, tokens[place]))
 }
 
-/// Whether a statement nests deeper than 200: so deep that its parts aren't taken apart. One
+/// Whether a statement nests deeper than the limit: so deep that its parts aren't taken apart. One
 /// pass, and no memory.
 ///
 /// <https://www.sqlite.org/limits.html#max_expr_depth> is SQLite's limit of this kind.
 #[tactic(auto, unfolding(crate::specs::Depth::depth_of))]
 pub fn too_deep(text: &[u8], tokens: &[Token]) -> bool
-    ensures { result ≡ nat_lt 200 (depth_of text.now tokens.now) }
+    ensures { result ≡ nat_lt depth_limit (depth_of text.now tokens.now) }
 {
     let mut levels = Levels::new();
     for (number, _) in tokens.iter().enumerate() {
         take_step(&mut levels, step_at(text, tokens, number));
-        if levels.sum() > 200 {
+        if levels.sum() > DEPTH_LIMIT {
             return true;
         }
     }

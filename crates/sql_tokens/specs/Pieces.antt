@@ -82,7 +82,11 @@ number_at n bs =
     let more = prefix_len is_word_byte (drop n bs) in
     token (cond (more == 0) kind.Number kind.Bad) (n + more)
 
--- digits write a parameter's number, which is 1 to 32766
+-- the greatest number of a parameter
+abbrev pub most_parameters : ℕ
+most_parameters = 32766
+
+-- digits write a parameter's number, which is 1 to the greatest
 abbrev pub is_parameter_number : Option ℕ → Bool
 is_parameter_number None = false
 is_parameter_number (Some n) = nat_lt 0 n
@@ -91,7 +95,7 @@ is_parameter_number (Some n) = nat_lt 0 n
 unfoldable pub numbered_parameter_at : List ℕ → Piece
 numbered_parameter_at bs =
     let digits = prefix_len is_ascii_digit (drop 1 bs) in
-    let number = digits_up_to 32766 (take digits (drop 1 bs)) in
+    let number = digits_up_to most_parameters (take digits (drop 1 bs)) in
     token (cond (digits == 0 || is_parameter_number number) kind.Parameter kind.Bad) (1 + digits)
 
 -- `:`, `@` or `$` with a name, or a bad token

@@ -15,6 +15,7 @@ mod values;
 
 pub use cut::lex;
 pub use number_values::{Number, signed_number, token_number};
+pub use numbers::MOST_PARAMETERS;
 pub use symbols::{Symbol, find_symbol};
 pub use terminal::{Terminal, terminal_at, token_text};
 pub use token::{Token, TokenKind, Tokens};

@@ -9,7 +9,7 @@ use crate::token::TokenKind;
 use sql_value::read_digits;
 
 /// The greatest number of a parameter.
-const MOST_PARAMETERS: u64 = 32766;
+pub const MOST_PARAMETERS: u64 = 32_766;
 
 /// Digits, a point and digits: how many bytes, or 0 where there is no digit.
 #[tactic(auto, unfolding(crate::specs::Pieces::parts_len))]

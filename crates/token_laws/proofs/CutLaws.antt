@@ -7,7 +7,7 @@ use Rattle.sql_tokens.specs.Tokens.{tokens_from, tokens_of, tokens_of_piece}
 use Rattle.sql_tokens.specs.PieceType.{Piece}
 use Rattle.token_laws.specs.Cuts.{IsCut, tokens_among}
 use Rattle.token_laws.specs.Table.{table, IsFirst}
-use Rattle.token_laws.proofs.FirstRows.{piece_first}
+use Rattle.token_laws.proofs.FirstRules.{piece_first}
 use Rattle.token_laws.proofs.Lengths.{piece_lies}
 use Rattle.token_laws.proofs.OnePiece.{one_piece}
 

@@ -11,7 +11,7 @@ use Rattle.sql_tokens.specs.declared.token.TokenKind.TheVariants as kind
 use Rattle.token_laws.specs.Form.{some_then, nothing, longest}
 use Rattle.token_laws.specs.Forms.{is, word_bytes, number, numbered_parameter, named_parameter}
 use Rattle.token_laws.specs.Kinds.{IsLongest, goes_on, passes_as_number}
-use Rattle.token_laws.specs.Rows as row
+use Rattle.token_laws.specs.Rules as rule
 use Rattle.token_laws.specs.Table.{IsFirst}
 use Rattle.token_laws.proofs.FirstQuotes.{behind_word, behind_numbers, longest_is}
 use Rattle.token_laws.proofs.Longest.{of_byte, more, none_passes}
@@ -163,9 +163,9 @@ named_first b bs t =
         inr (
           unnamed unseen,
           inr (
-            unfit row.wrong_parameter b bs numbered,
+            unfit rule.wrong_parameter b bs numbered,
             inr (
-              unfit row.symbol b bs (rw (no_symbol b bs t) refl),
+              unfit rule.symbol b bs (rw (no_symbol b bs t) refl),
               (refl, omega (arith, none)),
             ),
           ),

@@ -13,8 +13,8 @@ use Rattle.token_laws.specs.Form.{Form, longest}
 use Rattle.token_laws.specs.Forms.{is, doubled, pairs, Closed}
 use Rattle.token_laws.specs.Kinds.{IsLongest, IsBetweenQuotes, IsQuoted, IsBlobOf}
 use Rattle.token_laws.specs.BadTokens.{IsOpen, OpensQuoted, OpensBlob, OpensBracket}
-use Rattle.token_laws.specs.Rows.{Row}
-use Rattle.token_laws.specs.Rows as row
+use Rattle.token_laws.specs.Rules.{Rule}
+use Rattle.token_laws.specs.Rules as rule
 use Rattle.token_laws.specs.Table.{IsFirst}
 use Rattle.token_laws.proofs.Blobs.{all_even, pairs_are}
 use Rattle.token_laws.proofs.Booleans.{left_of, right_of}
@@ -27,56 +27,56 @@ pub longest_is : (f : Form) (bs : List ℕ) (n : ℕ) → longest f bs ≡ Some 
 longest_is f bs n e =
     (longest_within f bs n e, passes f bs n e, λ m lt le. no_longer f bs n m e lt le)
 
--- the rows of the table behind some of them
-abbrev pub behind_numbers : List Row
-behind_numbers = row.parameter ∷ row.wrong_parameter ∷ row.symbol ∷ []
+-- the rules of the table behind some of them
+abbrev pub behind_numbers : List Rule
+behind_numbers = rule.parameter ∷ rule.wrong_parameter ∷ rule.symbol ∷ []
 
-abbrev pub behind_word : List Row
-behind_word = row.number ∷ row.joined_number ∷ behind_numbers
+abbrev pub behind_word : List Rule
+behind_word = rule.number ∷ rule.joined_number ∷ behind_numbers
 
-abbrev pub behind_quoted : List Row
-behind_quoted = row.word ∷ behind_word
+abbrev pub behind_quoted : List Rule
+behind_quoted = rule.word ∷ behind_word
 
-abbrev pub behind_blobs : List Row
-behind_blobs = row.quoted ∷ row.unclosed ∷ behind_quoted
+abbrev pub behind_blobs : List Rule
+behind_blobs = rule.quoted ∷ rule.unclosed ∷ behind_quoted
 
-abbrev pub behind_text : List Row
-behind_text = row.blob ∷ row.unpaired_blob ∷ behind_blobs
+abbrev pub behind_text : List Rule
+behind_text = rule.blob ∷ rule.unpaired_blob ∷ behind_blobs
 
-abbrev pub behind_lines : List Row
-behind_lines = row.block_comment ∷ row.text ∷ behind_text
+abbrev pub behind_lines : List Rule
+behind_lines = rule.block_comment ∷ rule.text ∷ behind_text
 
-abbrev pub behind_spaces : List Row
-behind_spaces = row.line_comment ∷ behind_lines
+abbrev pub behind_spaces : List Rule
+behind_spaces = rule.line_comment ∷ behind_lines
 
 -- a quoted form's piece, or the bad one where nothing closes it
 closed_or_open :
-    (rows : List Row) (all : List ℕ) (n : ℕ) (x : Option ℕ) (f : ℕ → Piece)
-    → ((m : ℕ) → x ≡ Some m → IsFirst rows all (f m))
-    → (x ≡ None → IsFirst rows all (token kind.Bad n))
-    → IsFirst rows all (piece_or x f (token kind.Bad n))
-closed_or_open rows all n None f h g = g refl
-closed_or_open rows all n (Some m) f h g = h m refl
+    (rules : List Rule) (all : List ℕ) (n : ℕ) (x : Option ℕ) (f : ℕ → Piece)
+    → ((m : ℕ) → x ≡ Some m → IsFirst rules all (f m))
+    → (x ≡ None → IsFirst rules all (token kind.Bad n))
+    → IsFirst rules all (piece_or x f (token kind.Bad n))
+closed_or_open rules all n None f h g = g refl
+closed_or_open rules all n (Some m) f h g = h m refl
 
 stays_open : (q : ℕ) (bs : List ℕ) → inside_len q bs ≡ None → IsOpen q bs
 stays_open q bs e m c = absurd (cc (closed_len q bs m c, e))
 
 text_at :
     (bs : List ℕ)
-    → IsFirst (row.text ∷ behind_text) (39 ∷ bs) (quoted_at kind.Text 39 (39 ∷ bs))
+    → IsFirst (rule.text ∷ behind_text) (39 ∷ bs) (quoted_at kind.Text 39 (39 ∷ bs))
 unfolding quoted_at
 text_at bs =
-    closed_or_open (row.text ∷ behind_text) (39 ∷ bs) _ (inside_len 39 bs) _
+    closed_or_open (rule.text ∷ behind_text) (39 ∷ bs) _ (inside_len 39 bs) _
     (λ m e. inl (refl, (refl, (m, (refl, found 39 bs m e)))))
     (λ e. let open_there = stays_open 39 bs e in
     inr (
       λ n f. open_there (f.1.0) f.1.1.1,
       inr (
-        unfit row.blob 39 bs refl,
+        unfit rule.blob 39 bs refl,
         inr (
-          unfit row.unpaired_blob 39 bs refl,
+          unfit rule.unpaired_blob 39 bs refl,
           inr (
-            unfit row.quoted 39 bs refl,
+            unfit rule.quoted 39 bs refl,
             inl (refl, (refl, inl (refl, open_there))),
           ),
         ),
@@ -86,10 +86,10 @@ text_at bs =
 pub text_first :
     (b : ℕ) (bs : List ℕ)
     → (b == 39) ≡ true
-    → IsFirst (row.text ∷ behind_text) (b ∷ bs) (quoted_at kind.Text 39 (b ∷ bs))
+    → IsFirst (rule.text ∷ behind_text) (b ∷ bs) (quoted_at kind.Text 39 (b ∷ bs))
 text_first b bs t =
     subst
-    (λ (c : ℕ). IsFirst (row.text ∷ behind_text) (c ∷ bs) (quoted_at kind.Text 39 (c ∷ bs)))
+    (λ (c : ℕ). IsFirst (rule.text ∷ behind_text) (c ∷ bs) (quoted_at kind.Text 39 (c ∷ bs)))
     (sym (same_is b 39 t)) (text_at bs)
 
 -- blobs
@@ -143,7 +143,7 @@ blob_first b bs t =
       inr (
         λ n f. open_there (f.2.0 + 1) f.2.1.1,
         inr (
-          unfit row.quoted b bs (no_quote b x),
+          unfit rule.quoted b bs (no_quote b x),
           inl (refl, (refl, inr (inl (x, q, open_there)))),
         ),
       ),

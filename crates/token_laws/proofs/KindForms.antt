@@ -1,4 +1,4 @@
--- Each piece has the form of its kind, since that is what each row says.
+-- Each piece has the form of its kind, since that is what each rule says.
 use Rattle.std.proofs.Common.{◌≡◌, ℕ, ◌⊎◌, inl, inr, Option, None, Some, List, [], ◌∷◌, subst}
 use Rattle.std.proofs.Common.{sym}
 use Rattle.sql_tokens.specs.PieceType.{Piece}
@@ -9,10 +9,10 @@ use Rattle.token_laws.specs.Forms.{word}
 use Rattle.token_laws.specs.KindLaws.{IsBad}
 use Rattle.token_laws.specs.Kinds.{IsLongest, IsSkipped, IsNumber, IsBetweenQuotes, IsQuoted}
 use Rattle.token_laws.specs.Kinds.{IsBlob, IsParameter, IsSymbol}
-use Rattle.token_laws.specs.Rows.{Row}
-use Rattle.token_laws.specs.Rows as row
+use Rattle.token_laws.specs.Rules.{Rule}
+use Rattle.token_laws.specs.Rules as rule
 use Rattle.token_laws.specs.Table.{table, kind_of, BeginsWith, BeginsNothing, IsFirst}
-use Rattle.token_laws.proofs.FirstRows.{piece_first}
+use Rattle.token_laws.proofs.FirstRules.{piece_first}
 
 -- what a piece of a kind is
 abbrev pub HasForm : List ℕ → Option TokenKind → ℕ → Type 0
@@ -26,67 +26,67 @@ HasForm bytes (Some kind.Blob) n = IsBlob bytes n
 HasForm bytes (Some kind.Symbol) n = IsSymbol bytes n
 HasForm bytes (Some kind.Bad) n = IsBad bytes n
 
-row_form :
-    (r : Row) (bytes : List ℕ) (n : ℕ) → BeginsWith r bytes n → HasForm bytes (kind_of r) n
-row_form row.spaces bytes n h = inl h
-row_form row.line_comment bytes n h = inr (inl h)
-row_form row.block_comment bytes n h = inr (inr h)
-row_form row.text bytes n h = h
-row_form row.blob bytes n h = h
-row_form row.unpaired_blob bytes n h = inr (inl h)
-row_form row.quoted bytes n h = h
-row_form row.unclosed bytes n h = inl h
-row_form row.word bytes n h = h
-row_form row.number bytes n h = h
-row_form row.joined_number bytes n h = inr (inr (inl h))
-row_form row.parameter bytes n h = h
-row_form row.wrong_parameter bytes n h = inr (inr (inr (inl h)))
-row_form row.symbol bytes n h = h
+rule_form :
+    (r : Rule) (bytes : List ℕ) (n : ℕ) → BeginsWith r bytes n → HasForm bytes (kind_of r) n
+rule_form rule.spaces bytes n h = inl h
+rule_form rule.line_comment bytes n h = inr (inl h)
+rule_form rule.block_comment bytes n h = inr (inr h)
+rule_form rule.text bytes n h = h
+rule_form rule.blob bytes n h = h
+rule_form rule.unpaired_blob bytes n h = inr (inl h)
+rule_form rule.quoted bytes n h = h
+rule_form rule.unclosed bytes n h = inl h
+rule_form rule.word bytes n h = h
+rule_form rule.number bytes n h = h
+rule_form rule.joined_number bytes n h = inr (inr (inl h))
+rule_form rule.parameter bytes n h = h
+rule_form rule.wrong_parameter bytes n h = inr (inr (inr (inl h)))
+rule_form rule.symbol bytes n h = h
 
--- none of these rows fits
-abbrev NoneFits : List Row → List ℕ → Type 0
+-- none of these rules fits
+abbrev NoneFits : List Rule → List ℕ → Type 0
 NoneFits [] bytes = Unit {0}
-NoneFits (r ∷ rows) bytes = ((n : ℕ) → BeginsWith r bytes n → ⊥) × NoneFits rows bytes
+NoneFits (r ∷ rules) bytes = ((n : ℕ) → BeginsWith r bytes n → ⊥) × NoneFits rules bytes
 
--- the table has each row
+-- the table has each rule
 nothing_begins : (bytes : List ℕ) → NoneFits table bytes → BeginsNothing bytes
-nothing_begins bytes h row.spaces = h.0
-nothing_begins bytes h row.line_comment = h.1.0
-nothing_begins bytes h row.block_comment = h.1.1.0
-nothing_begins bytes h row.text = h.1.1.1.0
-nothing_begins bytes h row.blob = h.1.1.1.1.0
-nothing_begins bytes h row.unpaired_blob = h.1.1.1.1.1.0
-nothing_begins bytes h row.quoted = h.1.1.1.1.1.1.0
-nothing_begins bytes h row.unclosed = h.1.1.1.1.1.1.1.0
-nothing_begins bytes h row.word = h.1.1.1.1.1.1.1.1.0
-nothing_begins bytes h row.number = h.1.1.1.1.1.1.1.1.1.0
-nothing_begins bytes h row.joined_number = h.1.1.1.1.1.1.1.1.1.1.0
-nothing_begins bytes h row.parameter = h.1.1.1.1.1.1.1.1.1.1.1.0
-nothing_begins bytes h row.wrong_parameter = h.1.1.1.1.1.1.1.1.1.1.1.1.0
-nothing_begins bytes h row.symbol = h.1.1.1.1.1.1.1.1.1.1.1.1.1.0
+nothing_begins bytes h rule.spaces = h.0
+nothing_begins bytes h rule.line_comment = h.1.0
+nothing_begins bytes h rule.block_comment = h.1.1.0
+nothing_begins bytes h rule.text = h.1.1.1.0
+nothing_begins bytes h rule.blob = h.1.1.1.1.0
+nothing_begins bytes h rule.unpaired_blob = h.1.1.1.1.1.0
+nothing_begins bytes h rule.quoted = h.1.1.1.1.1.1.0
+nothing_begins bytes h rule.unclosed = h.1.1.1.1.1.1.1.0
+nothing_begins bytes h rule.word = h.1.1.1.1.1.1.1.1.0
+nothing_begins bytes h rule.number = h.1.1.1.1.1.1.1.1.1.0
+nothing_begins bytes h rule.joined_number = h.1.1.1.1.1.1.1.1.1.1.0
+nothing_begins bytes h rule.parameter = h.1.1.1.1.1.1.1.1.1.1.1.0
+nothing_begins bytes h rule.wrong_parameter = h.1.1.1.1.1.1.1.1.1.1.1.1.0
+nothing_begins bytes h rule.symbol = h.1.1.1.1.1.1.1.1.1.1.1.1.1.0
 
--- a piece is of a row, or none fits
-row_or_none :
-    (rows : List Row) (bytes : List ℕ) (p : Piece)
-    → IsFirst rows bytes p
+-- a piece is of a rule, or none fits
+rule_or_none :
+    (rules : List Rule) (bytes : List ℕ) (p : Piece)
+    → IsFirst rules bytes p
     → HasForm bytes p.kind p.len
-    ⊎ (NoneFits rows bytes × ((p.kind ≡ Some kind.Bad) × (p.len ≡ 1)))
-row_or_none [] bytes p h = inr (tt, h)
-row_or_none (r ∷ rows) bytes p (inl h) =
+    ⊎ (NoneFits rules bytes × ((p.kind ≡ Some kind.Bad) × (p.len ≡ 1)))
+rule_or_none [] bytes p h = inr (tt, h)
+rule_or_none (r ∷ rules) bytes p (inl h) =
     inl (subst (λ (k : Option TokenKind). HasForm bytes k p.len) (sym (h.0))
-    (row_form r bytes p.len h.1))
-row_or_none (r ∷ rows) bytes p (inr h) = at (row_or_none rows bytes p h.1)
+    (rule_form r bytes p.len h.1))
+rule_or_none (r ∷ rules) bytes p (inr h) = at (rule_or_none rules bytes p h.1)
   where
     at :
         (HasForm bytes p.kind p.len
-        ⊎ (NoneFits rows bytes × ((p.kind ≡ Some kind.Bad) × (p.len ≡ 1))))
+        ⊎ (NoneFits rules bytes × ((p.kind ≡ Some kind.Bad) × (p.len ≡ 1))))
         → HasForm bytes p.kind p.len
-        ⊎ (NoneFits (r ∷ rows) bytes × ((p.kind ≡ Some kind.Bad) × (p.len ≡ 1)))
+        ⊎ (NoneFits (r ∷ rules) bytes × ((p.kind ≡ Some kind.Bad) × (p.len ≡ 1)))
     at (inl f) = inl f
     at (inr n) = inr ((h.0, n.0), n.1)
 
 has_form : (bytes : List ℕ) (p : Piece) → IsFirst table bytes p → HasForm bytes p.kind p.len
-has_form bytes p h = at (row_or_none table bytes p h)
+has_form bytes p h = at (rule_or_none table bytes p h)
   where
     at :
         (HasForm bytes p.kind p.len

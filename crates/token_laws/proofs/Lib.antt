@@ -14,7 +14,7 @@ pub mod OneLength
 pub mod FirstQuotes
 pub mod FirstBrackets
 pub mod FirstNumbers
-pub mod FirstRows
+pub mod FirstRules
 pub mod OnePiece
 pub mod KindForms
 pub mod CutLaws

@@ -1,4 +1,4 @@
--- Each row fits with one length at most.
+-- Each rule fits with one length at most.
 use Rattle.std.proofs.Common.{◌≡◌, ℕ, zero, suc, ◌+◌, ◌<◌, ◌==◌, ◌||◌, ◌⊎◌, inl, inr, Bool, true}
 use Rattle.std.proofs.Common.{false, Some, List, [], ◌∷◌, length, take, drop, refl, ap, sym}
 use Rattle.std.proofs.Common.{subst, ◌∙◌, arith}
@@ -9,8 +9,8 @@ use Rattle.token_laws.specs.Forms.{bracketed, numbered_parameter, named_paramete
 use Rattle.token_laws.specs.Kinds.{IsLongest, IsCommentRest, IsComment, IsBetweenQuotes, IsQuoted}
 use Rattle.token_laws.specs.Kinds.{IsBlobOf, IsParameter, has_comment_end}
 use Rattle.token_laws.specs.BadTokens.{IsJoinedNumber}
-use Rattle.token_laws.specs.Rows.{Row}
-use Rattle.token_laws.specs.Rows as row
+use Rattle.token_laws.specs.Rules.{Rule}
+use Rattle.token_laws.specs.Rules as rule
 use Rattle.token_laws.specs.Table.{BeginsWith}
 use Rattle.token_laws.proofs.Openers.{front_byte, front_begins}
 use Rattle.token_laws.proofs.Quotes.{same_is}
@@ -128,21 +128,21 @@ parameter_once bytes m n (inr h) (inl g) = absurd (number_or_name bytes n m g.0 
 parameter_once bytes m n (inr h) (inr g) = longest_once named_parameter bytes m n h g
 
 pub one_length :
-    (r : Row) (bytes : List ℕ) (m n : ℕ)
+    (r : Rule) (bytes : List ℕ) (m n : ℕ)
     → BeginsWith r bytes m
     → BeginsWith r bytes n
     → m ≡ n
-one_length row.spaces bytes m n h g = longest_once spaces bytes m n h g
-one_length row.line_comment bytes m n h g = longest_once line_comment bytes m n h g
-one_length row.block_comment bytes m n h g = comment_once bytes m n h g
-one_length row.text bytes m n h g = between_once 39 bytes m n h g
-one_length row.blob bytes m n h g = blob_once true bytes m n h g
-one_length row.unpaired_blob bytes m n h g = blob_once false bytes m n h g
-one_length row.quoted bytes m n h g = quoted_once bytes m n h g
-one_length row.unclosed bytes m n h g = h.0 ∙ sym (g.0)
-one_length row.word bytes m n h g = longest_once word bytes m n h g
-one_length row.number bytes m n h g = longest_once number bytes m n h.0 g.0
-one_length row.joined_number bytes m n h g = joined_once bytes m n h g
-one_length row.parameter bytes m n h g = parameter_once bytes m n h g
-one_length row.wrong_parameter bytes m n h g = longest_once numbered_parameter bytes m n h.0 g.0
-one_length row.symbol bytes m n h g = longest_once symbol bytes m n h.1 g.1
+one_length rule.spaces bytes m n h g = longest_once spaces bytes m n h g
+one_length rule.line_comment bytes m n h g = longest_once line_comment bytes m n h g
+one_length rule.block_comment bytes m n h g = comment_once bytes m n h g
+one_length rule.text bytes m n h g = between_once 39 bytes m n h g
+one_length rule.blob bytes m n h g = blob_once true bytes m n h g
+one_length rule.unpaired_blob bytes m n h g = blob_once false bytes m n h g
+one_length rule.quoted bytes m n h g = quoted_once bytes m n h g
+one_length rule.unclosed bytes m n h g = h.0 ∙ sym (g.0)
+one_length rule.word bytes m n h g = longest_once word bytes m n h g
+one_length rule.number bytes m n h g = longest_once number bytes m n h.0 g.0
+one_length rule.joined_number bytes m n h g = joined_once bytes m n h g
+one_length rule.parameter bytes m n h g = parameter_once bytes m n h g
+one_length rule.wrong_parameter bytes m n h g = longest_once numbered_parameter bytes m n h.0 g.0
+one_length rule.symbol bytes m n h g = longest_once symbol bytes m n h.1 g.1

@@ -6,7 +6,7 @@ use Rattle.std.specs.List.{prefix_len}
 use Rattle.std.specs.Char.{is_ascii_digit}
 use Rattle.std.specs.Str.{all_ascii_digits}
 use Rattle.sql_meaning.specs.Numbers.{digits_behind, digits_up_to}
-use Rattle.sql_tokens.specs.Pieces.{is_parameter_number}
+use Rattle.sql_tokens.specs.Pieces.{is_parameter_number, most_parameters}
 use Rattle.token_laws.specs.Kinds.{passes_as_number}
 
 -- a run of digits holds digits alone
@@ -31,8 +31,8 @@ all_digits (b ∷ bs) = at (is_ascii_digit b) refl (all_digits bs)
 number_of_digits :
     (d : ℕ) (ds : List ℕ)
     → all_ascii_digits (d ∷ ds) ≡ true
-    → passes_as_number (d ∷ ds) ≡ is_parameter_number (digits_up_to 32766 (d ∷ ds))
-number_of_digits d ds all = rw all (at (nat_le (digits_behind 0 (d ∷ ds)) 32766))
+    → passes_as_number (d ∷ ds) ≡ is_parameter_number (digits_up_to most_parameters (d ∷ ds))
+number_of_digits d ds all = rw all (at (nat_le (digits_behind 0 (d ∷ ds)) most_parameters))
   where
     n : ℕ
     n = digits_behind 0 (d ∷ ds)
@@ -54,7 +54,7 @@ pub number_passes :
     (bs : List ℕ)
     → passes_as_number (take (prefix_len is_ascii_digit bs) bs)
     ≡ (prefix_len is_ascii_digit bs == 0
-    || is_parameter_number (digits_up_to 32766 (take (prefix_len is_ascii_digit bs) bs)))
+    || is_parameter_number (digits_up_to most_parameters (take (prefix_len is_ascii_digit bs) bs)))
 number_passes [] = refl
 number_passes (b ∷ bs) = at (is_ascii_digit b) refl (all_digits (b ∷ bs))
   where
@@ -67,7 +67,7 @@ number_passes (b ∷ bs) = at (is_ascii_digit b) refl (all_digits (b ∷ bs))
         → all_ascii_digits (take (cond v (1 + k) 0) (b ∷ bs)) ≡ true
         → passes_as_number (take (cond v (1 + k) 0) (b ∷ bs))
         ≡ (cond v (1 + k) 0 == 0
-        || is_parameter_number (digits_up_to 32766 (take (cond v (1 + k) 0) (b ∷ bs))))
+        || is_parameter_number (digits_up_to most_parameters (take (cond v (1 + k) 0) (b ∷ bs))))
     at false is all = refl
     at true is all =
         let one : 1 + k ≡ suc k = omega arith in
@@ -75,5 +75,7 @@ number_passes (b ∷ bs) = at (is_ascii_digit b) refl (all_digits (b ∷ bs))
         let all_of : all_ascii_digits (b ∷ take k bs) ≡ true = rw one at all in
         ap (λ n. passes_as_number (take n (b ∷ bs))) one
         ∙ number_of_digits b (take k bs) all_of
-        ∙ ap (λ n. is_parameter_number (digits_up_to 32766 (take n (b ∷ bs)))) (sym one)
-        ∙ ap (λ v. v || is_parameter_number (digits_up_to 32766 (take (1 + k) (b ∷ bs)))) (sym some)
+        ∙ ap (λ n. is_parameter_number (digits_up_to most_parameters (take n (b ∷ bs)))) (sym one)
+        ∙ ap
+        (λ v. v || is_parameter_number (digits_up_to most_parameters (take (1 + k) (b ∷ bs))))
+        (sym some)

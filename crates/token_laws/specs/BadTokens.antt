@@ -42,6 +42,6 @@ IsJoinedNumber bytes n =
     (m : ℕ) × ((k : ℕ) × ((n ≡ m + k) × IsLongest number bytes m
     × IsLongest word_bytes (drop m bytes) k))
 
--- `?` with digits whose number isn't 1 to 32766, all of it
+-- `?` with digits whose number isn't one of a parameter, all of it
 abbrev pub IsWrongParameter : List ℕ → ℕ → Type 0
 IsWrongParameter = IsNumbered false

@@ -6,7 +6,7 @@ use Rattle.sql_tokens.specs.declared.token.Token.{Token}
 use Rattle.token_laws.specs.Table.{table, IsFirst}
 
 -- Pieces that lie one behind the other and hold each byte once, none of them empty, and each of the
--- first row of the table that fits where it stands.
+-- first rule of the table that fits where it stands.
 abbrev pub IsCut : List ℕ → List Piece → Type 0
 IsCut bytes [] = bytes ≡ []
 IsCut bytes (p ∷ ps) =

@@ -3,6 +3,7 @@ use Rattle.std.specs.Prelude.{ℕ, ◌≡◌, ◌+◌, ◌<◌, ◌≤◌, ◌==
 use Rattle.std.specs.Prelude.{nat_lt, nat_le, List, [], ◌∷◌, length, take, drop}
 use Rattle.sql_meaning.specs.Numbers.{digits_behind}
 use Rattle.sql_tokens.specs.Characters.{is_word_byte}
+use Rattle.sql_tokens.specs.Pieces.{most_parameters}
 use Rattle.sql_tokens.specs.Runs.{begins}
 use Rattle.token_laws.specs.Form.{Form}
 use Rattle.token_laws.specs.Forms.{Closed, number, spaces, line_comment, bracketed, pairs}
@@ -55,11 +56,11 @@ abbrev pub IsQuoted : List ℕ → ℕ → Type 0
 IsQuoted bytes n =
     IsBetweenQuotes 34 bytes n ⊎ (IsBetweenQuotes 96 bytes n ⊎ IsLongest bracketed bytes n)
 
--- no digits, or digits that write a number from 1 to 32766
+-- no digits, or digits that write a number from 1 to the greatest of a parameter
 abbrev pub passes_as_number : List ℕ → Bool
 passes_as_number [] = true
 passes_as_number (d ∷ ds) =
-    nat_lt 0 (digits_behind 0 (d ∷ ds)) && nat_le (digits_behind 0 (d ∷ ds)) 32766
+    nat_lt 0 (digits_behind 0 (d ∷ ds)) && nat_le (digits_behind 0 (d ∷ ds)) most_parameters
 
 -- `?` and all digits behind it, whose number passes or doesn't
 abbrev pub IsNumbered : Bool → List ℕ → ℕ → Type 0

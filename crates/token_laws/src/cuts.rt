@@ -4,7 +4,7 @@ ghost use Rattle.sql_tokens.specs.Tokens.{tokens_of};
 ghost use Rattle.sql_tokens.specs.PieceType.{Piece};
 ghost use Rattle.token_laws.specs.Cuts.{IsCut, tokens_among};
 
-/// Every text has a cut into pieces, each of them of the first row of the table that fits at its
+/// Every text has a cut into pieces, each of them of the first rule of the table that fits at its
 /// place, and has only one: so each byte lies in one token or is skipped.
 pub fn each_byte_lies_in_one_piece()
     ensures some { (text : List ℕ) → (pieces : List Piece) × IsCut text pieces }

@@ -16,8 +16,8 @@ take_step-requires-clause-room c =
     let a = based_length _ c.loop-number.invariant.based in
     omega (arith, a, c.loop-number.invariant.small)
 
-pub returns-then-sum-gt200 : goal.returns-then-sum-gt200
-returns-then-sum-gt200 c =
+pub returns-then-sum-gt-DEPTH_LIMIT : goal.returns-then-sum-gt-DEPTH_LIMIT
+returns-then-sum-gt-DEPTH_LIMIT c =
     let n = length-depth_steps c.args.text.now c.args.tokens.now in
     now (depth_steps c.args.text.now c.args.tokens.now) c.loop-number.number
     c.loop-number.levels _ _ _ (omega (arith, n, c.loop-number-test.true)) c.step_at.ensures

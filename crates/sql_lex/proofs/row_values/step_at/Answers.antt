@@ -1,16 +1,9 @@
-use Rattle.std.proofs.Common.{ap, sym, ◌∙◌, arith, map}
-use Rattle.std.proofs.lemmas.List.{get_or-map, length-map}
 use Rattle.sql_tokens.specs.Terminals.{terminal_of}
-use Rattle.sql_tokens.specs.declared.terminal.Terminal.TheVariants as terminal
 use Rattle.sql_lex.specs.Rows.{step_of}
+use Rattle.sql_lex.proofs.Fronts.{step_seen}
 use Rattle.sql_lex.proofs.row_values.step_at.Goals as goal
 
 pub returns : goal.returns
 returns c =
-    let see = terminal_of c.args.text.now in
-    let tokens = c.args.tokens.now in
-    let n = length-map tokens see in
-    c.step_of.ensures
-    ∙ ap step_of (c.terminal_at.ensures
-    ∙ sym (get_or-map see tokens c.args.place _ terminal.Bad c.requires))
-    ∙ sym (get_or-map step_of (map see tokens) c.args.place terminal.Bad _ (omega (arith, n)))
+    step_seen step_of (terminal_of c.args.text.now) c.args.tokens.now c.args.place _ _ _ _
+    c.requires c.terminal_at.ensures c.step_of.ensures

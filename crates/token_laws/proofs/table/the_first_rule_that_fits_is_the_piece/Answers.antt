@@ -1,10 +1,10 @@
 use Rattle.std.proofs.Common.{◌∷◌}
 use Rattle.sql_tokens.specs.Pieces.{piece_at}
 use Rattle.token_laws.specs.Table.{table}
-use Rattle.token_laws.proofs.FirstRows.{piece_first}
+use Rattle.token_laws.proofs.FirstRules.{piece_first}
 use Rattle.token_laws.proofs.OneLength.{one_length}
 use Rattle.token_laws.proofs.OnePiece.{one_piece}
-use Rattle.token_laws.proofs.table.the_first_row_that_fits_is_the_piece.Goals as goal
+use Rattle.token_laws.proofs.table.the_first_rule_that_fits_is_the_piece.Goals as goal
 
 pub returns-clause-first : goal.returns-clause-first
 returns-clause-first c = piece_first

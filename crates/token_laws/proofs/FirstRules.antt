@@ -1,4 +1,4 @@
--- The piece at a place is of the first row that fits there.
+-- The piece at a place is of the first rule that fits there.
 use Rattle.std.proofs.Common.{◌≡◌, ℕ, ◌+◌, ◌==◌, ◌&&◌, ◌||◌, cond, not}
 use Rattle.std.proofs.Common.{inl, inr, Bool, true, false, List, [], ◌∷◌}
 use Rattle.std.proofs.Common.{drop, refl, ap, ◌∙◌}
@@ -12,8 +12,8 @@ use Rattle.sql_tokens.specs.declared.token.TokenKind.TheVariants as kind
 use Rattle.token_laws.specs.Forms.{spaces, line_comment, word}
 use Rattle.token_laws.specs.Forms.{symbol}
 use Rattle.token_laws.specs.Kinds.{IsLongest, IsComment, begins_comment}
-use Rattle.token_laws.specs.Rows.{Row}
-use Rattle.token_laws.specs.Rows as row
+use Rattle.token_laws.specs.Rules.{Rule}
+use Rattle.token_laws.specs.Rules as rule
 use Rattle.token_laws.specs.Table.{table, IsFirst}
 use Rattle.token_laws.proofs.Comments.{comment_rest}
 use Rattle.token_laws.proofs.FirstBrackets.{bracket_first}
@@ -29,12 +29,12 @@ use Rattle.token_laws.proofs.Symbols.{symbol_is}
 
 -- one of two pieces
 chosen :
-    (rows : List Row) (all : List ℕ) (v : Bool) (p q : Piece)
-    → (v ≡ true → IsFirst rows all p)
-    → (v ≡ false → IsFirst rows all q)
-    → IsFirst rows all (cond v p q)
-chosen rows all true p q h g = h refl
-chosen rows all false p q h g = g refl
+    (rules : List Rule) (all : List ℕ) (v : Bool) (p q : Piece)
+    → (v ≡ true → IsFirst rules all p)
+    → (v ≡ false → IsFirst rules all q)
+    → IsFirst rules all (cond v p q)
+chosen rules all true p q h g = h refl
+chosen rules all false p q h g = g refl
 
 spaces_fit :
     (b : ℕ) (bs : List ℕ)
@@ -77,9 +77,9 @@ symbol_first :
 unfolding symbol_at
 symbol_first b bs comment numbered named =
     inr (
-      unfit row.parameter b bs (rw (numbered, named) refl),
+      unfit rule.parameter b bs (rw (numbered, named) refl),
       inr (
-        unfit row.wrong_parameter b bs numbered,
+        unfit rule.wrong_parameter b bs numbered,
         at (symbol_len (b ∷ bs)) _ refl refl,
       ),
     )
@@ -88,8 +88,8 @@ symbol_first b bs comment numbered named =
         (n : ℕ) (v : Bool)
         → (n == 0) ≡ v
         → symbol_len (b ∷ bs) ≡ n
-        → IsFirst (row.symbol ∷ []) (b ∷ bs) (cond v (token kind.Bad 1) (token kind.Symbol n))
-    at n true e s = inr (unfit row.symbol b bs (rw (s, e) refl), (refl, refl))
+        → IsFirst (rule.symbol ∷ []) (b ∷ bs) (cond v (token kind.Bad 1) (token kind.Symbol n))
+    at n true e s = inr (unfit rule.symbol b bs (rw (s, e) refl), (refl, refl))
     at n false e s =
         inl (
           refl,
@@ -100,14 +100,14 @@ symbol_first b bs comment numbered named =
           ),
         )
 
--- a row that the first bytes open, or the rows behind it
-row_or_behind :
-    (r : Row) (rows : List Row) (b : ℕ) (bs : List ℕ) (p q : Piece)
-    → (opens r b bs ≡ true → IsFirst (r ∷ rows) (b ∷ bs) p)
-    → (opens r b bs ≡ false → IsFirst rows (b ∷ bs) q)
-    → IsFirst (r ∷ rows) (b ∷ bs) (cond (opens r b bs) p q)
-row_or_behind r rows b bs p q fits behind =
-    chosen (r ∷ rows) (b ∷ bs) (opens r b bs) p q fits (λ h. inr (unfit r b bs h, behind h))
+-- a rule that the first bytes open, or the rules behind it
+rule_or_behind :
+    (r : Rule) (rules : List Rule) (b : ℕ) (bs : List ℕ) (p q : Piece)
+    → (opens r b bs ≡ true → IsFirst (r ∷ rules) (b ∷ bs) p)
+    → (opens r b bs ≡ false → IsFirst rules (b ∷ bs) q)
+    → IsFirst (r ∷ rules) (b ∷ bs) (cond (opens r b bs) p q)
+rule_or_behind r rules b bs p q fits behind =
+    chosen (r ∷ rules) (b ∷ bs) (opens r b bs) p q fits (λ h. inr (unfit r b bs h, behind h))
 
 no_number_first :
     (b : ℕ) (bs : List ℕ) (p : Piece)
@@ -116,7 +116,7 @@ no_number_first :
     → IsFirst behind_word (b ∷ bs) p
 no_number_first b bs p none rest =
     let unopened : not (number_len (b ∷ bs) == 0) ≡ false = rw none refl in
-    inr (unfit row.number b bs unopened, inr (unfit row.joined_number b bs unopened, rest))
+    inr (unfit rule.number b bs unopened, inr (unfit rule.joined_number b bs unopened, rest))
 
 other_first :
     (b : ℕ) (bs : List ℕ)
@@ -132,20 +132,20 @@ other_first b bs comment =
     (λ some. number_first (number_len (b ∷ bs)) (b ∷ bs)
     (number_is (b ∷ bs) ∙ some_len_is (number_len (b ∷ bs)) some))
 
--- a blob's rows, or those behind them
+-- a blob's rules, or those behind them
 blobs_or_behind :
     (b : ℕ) (bs : List ℕ) (q : Piece)
-    → (opens row.blob b bs ≡ false → IsFirst behind_blobs (b ∷ bs) q)
-    → IsFirst behind_text (b ∷ bs) (cond (opens row.blob b bs) (blob_at (b ∷ bs)) q)
+    → (opens rule.blob b bs ≡ false → IsFirst behind_blobs (b ∷ bs) q)
+    → IsFirst behind_text (b ∷ bs) (cond (opens rule.blob b bs) (blob_at (b ∷ bs)) q)
 blobs_or_behind b bs q behind =
-    chosen behind_text (b ∷ bs) (opens row.blob b bs) _ q (blob_first b bs)
-    (λ h. inr (unfit row.blob b bs h, inr (unfit row.unpaired_blob b bs h, behind h)))
+    chosen behind_text (b ∷ bs) (opens rule.blob b bs) _ q (blob_first b bs)
+    (λ h. inr (unfit rule.blob b bs h, inr (unfit rule.unpaired_blob b bs h, behind h)))
 
--- the rows of quoted names and of what isn't closed, or those behind them
+-- the rules of quoted names and of what isn't closed, or those behind them
 quotes_or_behind :
     (b : ℕ) (bs : List ℕ) (q : Piece)
     → (b == 39) ≡ false
-    → opens row.blob b bs ≡ false
+    → opens rule.blob b bs ≡ false
     → IsFirst behind_quoted (b ∷ bs) q
     → IsFirst behind_blobs (b ∷ bs)
     (cond (b == 34 || b == 96) (quoted_at kind.Quoted b (b ∷ bs))
@@ -153,20 +153,20 @@ quotes_or_behind :
 quotes_or_behind b bs q text blob behind =
     chosen behind_blobs (b ∷ bs) (b == 34 || b == 96) _ _ (quoted_first b bs)
     (λ quoted. chosen behind_blobs (b ∷ bs) (b == 91) _ q (bracket_first b bs)
-    (λ bracket. let unquoted : opens row.quoted b bs ≡ false = rw (quoted, bracket) refl in
-    let closed : opens row.unclosed b bs ≡ false = rw (text, blob, unquoted) refl in
-    inr (unfit row.quoted b bs unquoted, inr (unfit row.unclosed b bs closed, behind))))
+    (λ bracket. let unquoted : opens rule.quoted b bs ≡ false = rw (quoted, bracket) refl in
+    let closed : opens rule.unclosed b bs ≡ false = rw (text, blob, unquoted) refl in
+    inr (unfit rule.quoted b bs unquoted, inr (unfit rule.unclosed b bs closed, behind))))
 
 pub piece_first : (b : ℕ) (bs : List ℕ) → IsFirst table (b ∷ bs) (piece_at (b ∷ bs))
 unfolding piece_at piece_from
 piece_first b bs =
-    row_or_behind row.spaces behind_spaces b bs _ _ (λ t. inl (refl, spaces_fit b bs t))
-    (λ space. row_or_behind row.line_comment behind_lines b bs _ _
+    rule_or_behind rule.spaces behind_spaces b bs _ _ (λ t. inl (refl, spaces_fit b bs t))
+    (λ space. rule_or_behind rule.line_comment behind_lines b bs _ _
     (λ t. inl (refl, line_fits b bs t))
-    (λ line. row_or_behind row.block_comment (row.text ∷ behind_text) b bs _ _
+    (λ line. rule_or_behind rule.block_comment (rule.text ∷ behind_text) b bs _ _
     (λ t. inl (refl, comment_fits b bs t))
-    (λ block. row_or_behind row.text behind_text b bs _ _ (text_first b bs)
+    (λ block. rule_or_behind rule.text behind_text b bs _ _ (text_first b bs)
     (λ text. blobs_or_behind b bs _
     (λ blob. quotes_or_behind b bs _ text blob
-    (row_or_behind row.word behind_word b bs _ _ (λ t. inl (refl, word_fits b bs t))
+    (rule_or_behind rule.word behind_word b bs _ _ (λ t. inl (refl, word_fits b bs t))
     (λ word. other_first b bs (rw (line, block) refl))))))))

@@ -4,7 +4,7 @@ use Rattle.sql_value.specs.declared.keywords.Keyword.TheVariants as keyword
 use Rattle.sql_tokens.specs.Terminals.{terminal_of}
 use Rattle.sql_tokens.specs.declared.terminal.Terminal.{Terminal}
 use Rattle.sql_lex.specs.Looks.{is_keyword}
-use Rattle.sql_lex.proofs.foreign_entries.has_from.Given as goal
+use Rattle.sql_lex.proofs.first_construct.has_from.Given as goal
 
 abbrev pub invariant-loop-token : goal.invariant-loop-token
 invariant-loop-token l =
