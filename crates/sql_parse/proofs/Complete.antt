@@ -17,11 +17,13 @@ use Rattle.sql_read.specs.Reading.{◌>>=◌, same_mark, after, name_at, Read, R
 use Rattle.sql_read.specs.Reading.{with_front, list_at}
 use Rattle.sql_read.specs.Leaves.{number_at, named_at, leaf_at, collated_at}
 use Rattle.sql_read.specs.Expressions.{Below, joined, below, expr_at, and_at, not_at, test_at}
-use Rattle.sql_read.specs.Expressions.{tested_at, one_of_at, entries_at, between_at, right_at}
+use Rattle.sql_read.specs.Expressions.{tested_at, one_of_at, entries_at, between_at, like_at}
+use Rattle.sql_read.specs.Expressions.{right_at}
 use Rattle.sql_read.specs.Expressions.{operand_at, primary_at, enclosed_at, op_at, null_at, is_at}
-use Rattle.sql_read.specs.Expressions.{null_test_at, range_at, follow_at}
+use Rattle.sql_read.specs.Expressions.{null_test_at, word_test_at, follow_at}
 use Rattle.sql_parse.specs.Grammar.{Level, Spells, Members, IsOp, IsNullTest, IsNumber, perhaps_not}
 use Rattle.sql_parse.specs.Grammar as g
+use Rattle.sql_read.proofs.Members.{more_at-stop}
 use Rattle.sql_parse.proofs.Steps.{after-same}
 
 abbrev pub reader : Level → Below → Reader Tree
@@ -76,6 +78,21 @@ unfolding after
 number_begins (g.int e) r = (record { close = refl; all = refl; star = refl }, refl, refl)
 number_begins (g.dec e) r = (record { close = refl; all = refl; star = refl }, refl, refl)
 
+-- what a primary other than a number begins with
+data FirstOfPrimary : Lexeme → Type 0 where
+  null : FirstOfPrimary (lexeme.Fixed mark.Null)
+  minus : FirstOfPrimary (lexeme.Fixed mark.Minus)
+  open_mark : FirstOfPrimary (lexeme.Fixed mark.Open)
+  text : (bytes : List ℕ) → FirstOfPrimary (lexeme.Text bytes)
+  blob : (bytes : List ℕ) → FirstOfPrimary (lexeme.Blob bytes)
+  param : (n : ℕ) → FirstOfPrimary (lexeme.Param n)
+  name : (c : List ℕ) (d : Option Direction) → FirstOfPrimary (lexeme.Name c d)
+
+primary_begins : {t : Lexeme} → FirstOfPrimary t → (r : List Lexeme) → Allowed g.primary t r
+unfolding after same_mark
+primary_begins null r = (record { close = refl; all = refl; star = refl }, refl, refl)
+primary_begins _ r = (record { close = refl; all = refl; star = refl }, refl, refl)
+
 mutual
   unfolding after same_mark
 
@@ -92,6 +109,8 @@ mutual
       (c.0, c.1, c.2, c.3)
   begins (g.between {ts} {fs} neg s t u e) = let c = longer g.operand ts fs _ (begins s) e in
       (c.0, c.1, c.2, c.3)
+  begins (g.like {ts} {fs} neg s t e) = let c = longer g.operand ts fs _ (begins s) e in
+      (c.0, c.1, c.2, c.3)
   begins (g.in_none {ts} {fs} neg s e) = let c = longer g.operand ts fs _ (begins s) e in
       (c.0, c.1, c.2, c.3)
   begins (g.in_some {ts} {fs} neg s t e) = let c = longer g.operand ts fs _ (begins s) e in
@@ -105,55 +124,18 @@ mutual
   begins (g.simple s) = let b = begins s in (b.0, b.1, b.2, λ r. ((b.3 r).0, (b.3 r).1))
   begins (g.collated {ts} {fs} c d s e) = let b = longer g.primary ts fs _ (begins s) e in
       (b.0, b.1, b.2, λ r. ((b.3 r).0, (b.3 r).1))
-  begins g.null = (
-    lexeme.Fixed mark.Null,
-    [],
-    refl,
-    λ r. (record { close = refl; all = refl; star = refl }, refl, refl),
-  )
+  begins g.null = (lexeme.Fixed mark.Null, [], refl, primary_begins null)
   begins (g.number {t} k) = (t, [], refl, number_begins k)
-  begins (g.negative {t} k) = (
-    lexeme.Fixed mark.Minus,
-    t ∷ [],
-    refl,
-    λ r. (record { close = refl; all = refl; star = refl }, refl, refl),
-  )
-  begins (g.text bytes) = (
-    lexeme.Text bytes,
-    [],
-    refl,
-    λ r. (record { close = refl; all = refl; star = refl }, refl, refl),
-  )
-  begins (g.blob bytes) = (
-    lexeme.Blob bytes,
-    [],
-    refl,
-    λ r. (record { close = refl; all = refl; star = refl }, refl, refl),
-  )
-  begins (g.param n) = (
-    lexeme.Param n,
-    [],
-    refl,
-    λ r. (record { close = refl; all = refl; star = refl }, refl, refl),
-  )
-  begins (g.column c d) = (
-    lexeme.Name c d,
-    [],
-    refl,
-    λ r. (record { close = refl; all = refl; star = refl }, refl, refl),
-  )
-  begins (g.qualified t c d e) = (
-    lexeme.Name t d,
-    lexeme.Fixed mark.Dot ∷ lexeme.Name c e ∷ [],
-    refl,
-    λ r. (record { close = refl; all = refl; star = refl }, refl, refl),
-  )
-  begins (g.enclosed {es = es} s e) = (
-    lexeme.Fixed mark.Open,
-    es ++ lexeme.Fixed mark.Close ∷ [],
-    e,
-    λ r. (record { close = refl; all = refl; star = refl }, refl, refl),
-  )
+  begins (g.negative {t} k) = (lexeme.Fixed mark.Minus, t ∷ [], refl, primary_begins minus)
+  begins (g.text bytes) = (lexeme.Text bytes, [], refl, primary_begins (text bytes))
+  begins (g.blob bytes) = (lexeme.Blob bytes, [], refl, primary_begins (blob bytes))
+  begins (g.param n) = (lexeme.Param n, [], refl, primary_begins (param n))
+  begins (g.column c d) = (lexeme.Name c d, [], refl, primary_begins (name c d))
+  begins (g.qualified t c d e) =
+      let behind : List Lexeme = lexeme.Fixed mark.Dot ∷ lexeme.Name c e ∷ [] in
+      (lexeme.Name t d, behind, refl, primary_begins (name t d))
+  begins (g.enclosed {es = es} s e) =
+      (lexeme.Fixed mark.Open, es ++ lexeme.Fixed mark.Close ∷ [], e, primary_begins open_mark)
 
   members_begin : {l : Level} {m : Mark} {ts : List Lexeme} {xs : List Tree} → Members l m ts xs
       → Begins l ts
@@ -181,12 +163,6 @@ no_mark {ts} s rest =
 -- Lists of members, of any kind.
 
 module _ {A : Type 0} (start : List Lexeme → Option (List Lexeme)) (p : Reader A) where
-  pub more_at-stop : (n : ℕ) (ts : List Lexeme) → start ts ≡ None
-      → more_at start p n ts ≡ Some ([], ts)
-  unfolding more_at
-  more_at-stop zero ts e = refl
-  more_at-stop (suc n) ts e = rw e refl
-
   -- a first member, and up to n behind it
   unfoldable pub members_at : Reader A → ℕ → Reader (List A)
   members_at first n ts = first ts >>= λ x. with_front (x.0 ∷ []) (more_at start p n x.1)
@@ -200,7 +176,7 @@ module _ {A : Type 0} (start : List Lexeme → Option (List Lexeme)) (p : Reader
       → first ts ≡ Some (x, rest) → start rest ≡ None →
       members_at first n ts ≡ Some (x ∷ [], rest)
   unfolding members_at
-  from_last first n ts rest x e stop = rw (e, more_at-stop n rest stop) refl
+  from_last first n ts rest x e stop = rw (e, more_at-stop start p n rest stop) refl
 
   pub from_more : (first : Reader A) (n : ℕ) (ts s q rest : List Lexeme) (x : A) (xs : List A)
       → first ts ≡ Some (x, s) →
@@ -214,7 +190,7 @@ module _ {A : Type 0} (start : List Lexeme → Option (List Lexeme)) (p : Reader
       → start rest ≡ None →
       list_at first start p ts ≡ Some (x ∷ [], rest)
   unfolding list_at
-  list_last first ts rest x e stop = rw (e, more_at-stop (length rest) rest stop) refl
+  list_last first ts rest x e stop = rw (e, more_at-stop start p (length rest) rest stop) refl
 
   pub list_more : (first : Reader A) (ts s q rest : List Lexeme) (x : A) (xs : List A) (n : ℕ)
       → first ts ≡ Some (x, s) →
@@ -246,31 +222,29 @@ follow_op : {m : Mark} {o : Op} → IsOp m o → (q : List Lexeme)
     → follow_at (lexeme.Fixed m ∷ q) ≡ Some (follow.Cmp o, q)
 unfolding follow_at op_at after same_mark
 follow_op g.eq q = refl
-follow_op g.eq_eq q = refl
-follow_op g.ne q = refl
-follow_op g.lt q = refl
-follow_op g.le q = refl
-follow_op g.gt q = refl
-follow_op g.ge q = refl
+follow_op _ q = refl
 
 follow_null : {neg : Bool} {ms : List Lexeme} → IsNullTest neg ms → (q : List Lexeme)
     → follow_at (ms ++ q) ≡ Some (follow.Null neg, q)
 unfolding follow_at op_at null_test_at is_at null_at after same_mark
 follow_null g.is_null q = refl
-follow_null g.isnull q = refl
-follow_null g.is_not_null q = refl
-follow_null g.notnull q = refl
-follow_null g.not_null q = refl
+follow_null _ q = refl
 
 follow_between : (neg : Bool) (q : List Lexeme)
     → follow_at (perhaps_not neg mark.Between ++ q) ≡ Some (follow.Between neg, q)
-unfolding follow_at op_at null_test_at null_at range_at after same_mark
+unfolding follow_at op_at null_test_at null_at word_test_at after same_mark
 follow_between false q = refl
 follow_between true q = refl
 
+follow_like : (neg : Bool) (q : List Lexeme)
+    → follow_at (perhaps_not neg mark.Like ++ q) ≡ Some (follow.Like neg, q)
+unfolding follow_at op_at null_test_at null_at word_test_at after same_mark
+follow_like false q = refl
+follow_like true q = refl
+
 follow_in : (neg : Bool) (q : List Lexeme)
     → follow_at (perhaps_not neg mark.In ++ q) ≡ Some (follow.OneOf neg, q)
-unfolding follow_at op_at null_test_at null_at range_at after same_mark
+unfolding follow_at op_at null_test_at null_at word_test_at after same_mark
 follow_in false q = refl
 follow_in true q = refl
 
@@ -321,6 +295,12 @@ module _ (b : Below) where
   unfolding test_at tested_at between_at
   test_between neg ts q s rest x y z e f h =
       rw (e, follow_between neg q, f, after-same mark.And s, h) refl
+
+  test_like : (neg : Bool) (ts q rest : List Lexeme) (x y : Tree)
+      → operand_at b ts ≡ Some (x, perhaps_not neg mark.Like ++ q)
+      → operand_at b q ≡ Some (y, rest) → test_at b ts ≡ Some (tree.Like neg x y, rest)
+  unfolding test_at tested_at like_at
+  test_like neg ts q rest x y e f = rw (e, follow_like neg q, f) refl
 
   test_in : (neg : Bool) (ts q rest : List Lexeme) (x : Tree) (xs : List Tree)
       → operand_at b ts ≡ Some (x, perhaps_not neg mark.In ++ lexeme.Fixed mark.Open ∷ q)
@@ -412,11 +392,11 @@ module _ (b : Below) where
 -- What ends a level.
 
 stops_at_or : (q : List Lexeme) → Stops g.and (lexeme.Fixed mark.Or ∷ q)
-unfolding after same_mark follow_at op_at null_test_at range_at
+unfolding after same_mark follow_at op_at null_test_at word_test_at
 stops_at_or q = (record { dot = refl; collate = refl; follow = refl }, refl)
 
 stops_at_and : (q : List Lexeme) → Stops g.not (lexeme.Fixed mark.And ∷ q)
-unfolding after same_mark follow_at op_at null_test_at range_at
+unfolding after same_mark follow_at op_at null_test_at word_test_at
 stops_at_and q = record { dot = refl; collate = refl; follow = refl }
 
 stops_before_and : (q : List Lexeme) → Stops g.operand (lexeme.Fixed mark.And ∷ q)
@@ -424,11 +404,11 @@ unfolding after same_mark
 stops_before_and q = (refl, refl)
 
 pub stops_at_comma : (q : List Lexeme) → Stops g.expr (lexeme.Fixed mark.Comma ∷ q)
-unfolding after same_mark follow_at op_at null_test_at range_at
+unfolding after same_mark follow_at op_at null_test_at word_test_at
 stops_at_comma q = (record { dot = refl; collate = refl; follow = refl }, refl, refl)
 
 stops_at_close : (q : List Lexeme) → Stops g.expr (lexeme.Fixed mark.Close ∷ q)
-unfolding after same_mark follow_at op_at null_test_at range_at
+unfolding after same_mark follow_at op_at null_test_at word_test_at
 stops_at_close q = (record { dot = refl; collate = refl; follow = refl }, refl, refl)
 
 no_comma : (q : List Lexeme) → after mark.Comma (lexeme.Fixed mark.Close ∷ q) ≡ None
@@ -439,27 +419,25 @@ pub stops_at_op : {m : Mark} {o : Op} → IsOp m o → (q : List Lexeme)
     → Stops g.operand (lexeme.Fixed m ∷ q)
 unfolding after same_mark
 stops_at_op g.eq q = (refl, refl)
-stops_at_op g.eq_eq q = (refl, refl)
-stops_at_op g.ne q = (refl, refl)
-stops_at_op g.lt q = (refl, refl)
-stops_at_op g.le q = (refl, refl)
-stops_at_op g.gt q = (refl, refl)
-stops_at_op g.ge q = (refl, refl)
+stops_at_op _ q = (refl, refl)
 
 pub stops_at_null_test : {neg : Bool} {ms : List Lexeme} → IsNullTest neg ms → (q : List Lexeme)
     → Stops g.operand (ms ++ q)
 unfolding after same_mark
 stops_at_null_test g.is_null q = (refl, refl)
-stops_at_null_test g.isnull q = (refl, refl)
-stops_at_null_test g.is_not_null q = (refl, refl)
-stops_at_null_test g.notnull q = (refl, refl)
-stops_at_null_test g.not_null q = (refl, refl)
+stops_at_null_test _ q = (refl, refl)
 
 pub stops_at_between : (neg : Bool) (q : List Lexeme)
     → Stops g.operand (perhaps_not neg mark.Between ++ q)
 unfolding after same_mark
 stops_at_between false q = (refl, refl)
 stops_at_between true q = (refl, refl)
+
+pub stops_at_like : (neg : Bool) (q : List Lexeme)
+    → Stops g.operand (perhaps_not neg mark.Like ++ q)
+unfolding after same_mark
+stops_at_like false q = (refl, refl)
+stops_at_like true q = (refl, refl)
 
 pub stops_at_in : (neg : Bool) (q : List Lexeme) → Stops g.operand (perhaps_not neg mark.In ++ q)
 unfolding after same_mark
@@ -523,6 +501,16 @@ mutual
       (complete n t (omega arith) (lexeme.Fixed mark.And ∷ (cs ++ rest))
       (stops_before_and (cs ++ rest)))
       (complete n u (omega arith) rest (stop.dot, stop.collate)))
+  complete n (g.like {ts} {fs} {bs} {x} {y} neg s t e) fits rest stop =
+      let ms = perhaps_not neg mark.Like in
+      let long = lengths ts fs (ms ++ bs) e in
+      let longer = length-append ms bs in
+      let q : List Lexeme = bs ++ rest in
+      let whole : ts ++ rest ≡ fs ++ (ms ++ q) =
+      parts ts fs (ms ++ bs) rest e ∙ ap (λ r. fs ++ r) (append_assoc ms bs rest) in
+      rw whole (test_like (below n) neg (fs ++ (ms ++ q)) q rest x y
+      (complete n s (omega arith) (ms ++ q) (stops_at_like neg q))
+      (complete n t (omega arith) rest (stop.dot, stop.collate)))
   complete n (g.in_none {ts} {fs} {x} neg s e) fits rest stop =
       let ms = perhaps_not neg mark.In in
       let inside : List Lexeme = lexeme.Fixed mark.Open ∷ lexeme.Fixed mark.Close ∷ [] in

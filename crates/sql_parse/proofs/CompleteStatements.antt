@@ -14,13 +14,15 @@ use Rattle.sql_read.specs.declared.lexeme.Mark.{Mark}
 use Rattle.sql_read.specs.declared.lexeme.Mark.TheVariants as mark
 use Rattle.sql_read.specs.Lexemes.{Lexeme}
 use Rattle.sql_read.specs.Lexemes as lexeme
-use Rattle.sql_read.specs.Reading.{◌>>=◌, after, same_mark, name_at, Read, Reader, more_at, list_at}
-use Rattle.sql_read.specs.Expressions.{below, expr_at, follow_at, op_at, null_test_at, range_at}
-use Rattle.sql_read.specs.Parts.{Cuts, optional_at, label_at, alias_at, table_star_at}
-use Rattle.sql_read.specs.Parts.{value_item_at, item_at, source_at, joined_source_at, join_at}
-use Rattle.sql_read.specs.Parts.{join_begins, direction_at, key_at, keys_at, count_at, param_at}
-use Rattle.sql_read.specs.Parts.{cut_at, second_cut_at, cuts_at, set_at}
-use Rattle.sql_read.specs.Statements.{items_at, sources_at, sets_at, from_at, past_all, select_at}
+use Rattle.sql_read.specs.Reading.{◌>>=◌, after, past, same_mark, name_at, Read, Reader, more_at}
+use Rattle.sql_read.specs.Reading.{list_at}
+use Rattle.sql_read.specs.Expressions.{below, expr_at, follow_at, op_at, null_test_at, word_test_at}
+use Rattle.sql_read.specs.Parts.{optional_at, label_at, alias_at, table_star_at}
+use Rattle.sql_read.specs.Parts.{value_result_at, result_at, source_at, joined_source_at, join_at}
+use Rattle.sql_read.specs.Parts.{join_begins, cross_joined, left_joined, direction_at, key_at}
+use Rattle.sql_read.specs.Parts.{keys_at, set_at}
+use Rattle.sql_read.specs.Limits.{Cuts, count_at, param_at, cut_at, second_cut_at, limits_at}
+use Rattle.sql_read.specs.Statements.{results_at, sources_at, sets_at, from_at, select_at}
 use Rattle.sql_read.specs.Statements.{update_at, delete_at, statement_at}
 use Rattle.sql_parse.specs.Grammar.{Level, Spells, Members, IsNumber, perhaps_not}
 use Rattle.sql_parse.specs.Grammar as g
@@ -28,11 +30,13 @@ use Rattle.sql_parse.specs.Statements.{Listed, Condition, Label, Alias, Result, 
 use Rattle.sql_parse.specs.Statements.{Joins, Sources, Directed, SortKey, SortKeys, Count, Limits}
 use Rattle.sql_parse.specs.Statements.{Setting, PerhapsAll, IsSpelled}
 use Rattle.sql_parse.specs.Statements as s
+use Rattle.sql_read.proofs.Members.{more_at-stop}
 use Rattle.sql_parse.proofs.Steps.{after-same}
 use Rattle.sql_parse.proofs.Complete.{Stops, expressions_complete, no_mark, no_dot, stops_at_op}
-use Rattle.sql_parse.proofs.Complete.{stops_at_null_test, stops_at_between, stops_at_in, parts}
+use Rattle.sql_parse.proofs.Complete.{stops_at_null_test, stops_at_between, stops_at_like}
+use Rattle.sql_parse.proofs.Complete.{stops_at_in, parts}
 use Rattle.sql_parse.proofs.Complete.{lengths, members_at, from_last, from_more, list_last}
-use Rattle.sql_parse.proofs.Complete.{list_more, more_at-stop, more_at-step}
+use Rattle.sql_parse.proofs.Complete.{list_more, more_at-step}
 
 -- No expression begins with a name and `.*`.
 
@@ -79,6 +83,10 @@ mutual
       let q : List Lexeme = bs ++ lexeme.Fixed mark.And ∷ cs in
       rw (parts ts fs (ms ++ q) rest e, append_assoc ms q rest)
       (no_star k (ms ++ (q ++ rest)) (stops_at_between neg (q ++ rest)).0)
+  no_star (g.like {ts} {fs} {bs} neg k l e) rest dot =
+      let ms = perhaps_not neg mark.Like in
+      rw (parts ts fs (ms ++ bs) rest e, append_assoc ms bs rest)
+      (no_star k (ms ++ (bs ++ rest)) (stops_at_like neg (bs ++ rest)).0)
   no_star (g.in_none {ts} {fs} neg k e) rest dot =
       let ms = perhaps_not neg mark.In in
       let q : List Lexeme = lexeme.Fixed mark.Open ∷ lexeme.Fixed mark.Close ∷ [] in
@@ -133,7 +141,8 @@ data Next : Mark → Type 0 where
   set_mark : Next mark.Set
 
 closed_at : {m : Mark} → Next m → (q : List Lexeme) → Closed (lexeme.Fixed m ∷ q)
-unfolding after same_mark follow_at op_at null_test_at range_at label_at join_begins direction_at
+unfolding after same_mark follow_at op_at null_test_at word_test_at label_at join_begins
+    direction_at
 closed_at from_mark q =
     record {
       stops = (record { dot = refl; collate = refl; follow = refl }, refl, refl);
@@ -144,37 +153,7 @@ closed_at from_mark q =
       comma = refl;
       direction = refl;
     }
-closed_at where_mark q =
-    record {
-      stops = (record { dot = refl; collate = refl; follow = refl }, refl, refl);
-      as_mark = refl;
-      label = λ texts. refl;
-      on = refl;
-      join = refl;
-      comma = refl;
-      direction = refl;
-    }
-closed_at order_mark q =
-    record {
-      stops = (record { dot = refl; collate = refl; follow = refl }, refl, refl);
-      as_mark = refl;
-      label = λ texts. refl;
-      on = refl;
-      join = refl;
-      comma = refl;
-      direction = refl;
-    }
-closed_at limit_mark q =
-    record {
-      stops = (record { dot = refl; collate = refl; follow = refl }, refl, refl);
-      as_mark = refl;
-      label = λ texts. refl;
-      on = refl;
-      join = refl;
-      comma = refl;
-      direction = refl;
-    }
-closed_at set_mark q =
+closed_at _ q =
     record {
       stops = (record { dot = refl; collate = refl; follow = refl }, refl, refl);
       as_mark = refl;
@@ -186,7 +165,8 @@ closed_at set_mark q =
     }
 
 closed_end : Closed []
-unfolding after same_mark follow_at op_at null_test_at range_at label_at join_begins direction_at
+unfolding after same_mark follow_at op_at null_test_at word_test_at label_at join_begins
+    direction_at
 closed_end = record {
   stops = (record { dot = refl; collate = refl; follow = refl }, refl, refl);
   as_mark = refl;
@@ -265,13 +245,13 @@ alias_read (s.behind_as {t = t} k) rest none label =
 
 label_stops : {texts : Bool} {t : Lexeme} {b : List ℕ} → Label texts t b → (rest : List Lexeme)
     → Stops g.expr (t ∷ rest)
-unfolding after same_mark follow_at op_at null_test_at range_at
+unfolding after same_mark follow_at op_at null_test_at word_test_at
 label_stops (s.named bytes d) rest =
     (record { dot = refl; collate = refl; follow = refl }, refl, refl)
 label_stops (s.text bytes) rest = (record { dot = refl; collate = refl; follow = refl }, refl, refl)
 
 stops_at_as : (rest : List Lexeme) → Stops g.expr (lexeme.Fixed mark.As ∷ rest)
-unfolding after same_mark follow_at op_at null_test_at range_at
+unfolding after same_mark follow_at op_at null_test_at word_test_at
 stops_at_as rest = (record { dot = refl; collate = refl; follow = refl }, refl, refl)
 
 alias_stops : {texts : Bool} {ts : List Lexeme} {a : Option (List ℕ)} → Alias texts ts a
@@ -280,9 +260,9 @@ alias_stops s.none rest stop = stop
 alias_stops (s.bare k) rest stop = label_stops k rest
 alias_stops (s.behind_as {t = t} k) rest stop = stops_at_as (t ∷ rest)
 
-table_read : {cross : Bool} {ts : List Lexeme} {x : SourceTree} → Table cross ts x
+table_read : {ts : List Lexeme} {x : SourceTree} → Table ts x
     → (rest : List Lexeme) → after mark.As rest ≡ None → label_at false rest ≡ None
-    → source_at cross (ts ++ rest) ≡ Some (x, rest)
+    → source_at (ts ++ rest) ≡ Some (x, rest)
 unfolding source_at name_at
 table_read (s.table t d a) rest none label = rw (alias_read a rest none label) refl
 
@@ -321,8 +301,8 @@ limit_no : after mark.Limit [] ≡ None
 unfolding after
 limit_no = refl
 
-limits_read : {cs : List Lexeme} {c : Cuts} → Limits cs c → cuts_at cs ≡ Some (c, [])
-unfolding cuts_at
+limits_read : {cs : List Lexeme} {c : Cuts} → Limits cs c → limits_at cs ≡ Some (c, [])
+unfolding limits_at
 limits_read s.none = rw limit_no refl
 limits_read (s.limit {ts} {x} k) =
     let read : cut_at ts ≡ Some (x, []) = ap cut_at (sym (append-nil ts)) ∙ count_read k [] in
@@ -345,7 +325,7 @@ directed_read (s.desc bytes) rest e = refl
 
 name_stops : (bytes : List ℕ) (d : Option Direction) (rest : List Lexeme)
     → Stops g.expr (lexeme.Name bytes d ∷ rest)
-unfolding after same_mark follow_at op_at null_test_at range_at
+unfolding after same_mark follow_at op_at null_test_at word_test_at
 name_stops bytes d rest = (record { dot = refl; collate = refl; follow = refl }, refl, refl)
 
 directed_stops : {ts : List Lexeme} {falls : Bool} → Directed ts falls → (rest : List Lexeme)
@@ -392,14 +372,14 @@ module _ {A : Type 0} (R : List Lexeme → A → Type 0) (p : Reader A) (E : Lis
       (rest_read (length q) t (omega arith) (omega arith) rest stop none))
 
 -- what may follow a result
-record EndsItem (ts : List Lexeme) : Type 0 where
+record EndsResult (ts : List Lexeme) : Type 0 where
   stops : Stops g.expr ts
   as_mark : after mark.As ts ≡ None
   label : label_at true ts ≡ None
 
-item_apart : (q : List Lexeme) → EndsItem (lexeme.Fixed mark.Comma ∷ q)
-unfolding after same_mark follow_at op_at null_test_at range_at label_at
-item_apart q = record {
+result_apart : (q : List Lexeme) → EndsResult (lexeme.Fixed mark.Comma ∷ q)
+unfolding after same_mark follow_at op_at null_test_at word_test_at label_at
+result_apart q = record {
   stops = (record { dot = refl; collate = refl; follow = refl }, refl, refl);
   as_mark = refl;
   label = refl;
@@ -411,14 +391,14 @@ record EndsKey (ts : List Lexeme) : Type 0 where
   direction : direction_at ts ≡ Some (false, ts)
 
 key_apart : (q : List Lexeme) → EndsKey (lexeme.Fixed mark.Comma ∷ q)
-unfolding after same_mark follow_at op_at null_test_at range_at direction_at
+unfolding after same_mark follow_at op_at null_test_at word_test_at direction_at
 key_apart q = record {
   stops = (record { dot = refl; collate = refl; follow = refl }, refl, refl);
   direction = refl;
 }
 
 set_apart : (q : List Lexeme) → Stops g.expr (lexeme.Fixed mark.Comma ∷ q)
-unfolding after same_mark follow_at op_at null_test_at range_at
+unfolding after same_mark follow_at op_at null_test_at word_test_at
 set_apart q = (record { dot = refl; collate = refl; follow = refl }, refl, refl)
 
 -- Sources.
@@ -436,11 +416,12 @@ ends_source k = record { stops = k.stops; as_mark = k.as_mark; label = k.label f
 data JoinMark : Mark → Type 0 where
   comma_mark : JoinMark mark.Comma
   cross_mark : JoinMark mark.Cross
+  left_mark : JoinMark mark.Left
   inner_mark : JoinMark mark.Inner
   join_mark : JoinMark mark.Join
 
 join_ends : {m : Mark} → JoinMark m → (q : List Lexeme) → EndsSource (lexeme.Fixed m ∷ q)
-unfolding after same_mark follow_at op_at null_test_at range_at label_at
+unfolding after same_mark follow_at op_at null_test_at word_test_at label_at
 join_ends comma_mark q =
     record {
       stops = (record { dot = refl; collate = refl; follow = refl }, refl, refl);
@@ -448,21 +429,7 @@ join_ends comma_mark q =
       label = refl;
       on = refl;
     }
-join_ends cross_mark q =
-    record {
-      stops = (record { dot = refl; collate = refl; follow = refl }, refl, refl);
-      as_mark = refl;
-      label = refl;
-      on = refl;
-    }
-join_ends inner_mark q =
-    record {
-      stops = (record { dot = refl; collate = refl; follow = refl }, refl, refl);
-      as_mark = refl;
-      label = refl;
-      on = refl;
-    }
-join_ends join_mark q =
+join_ends _ q =
     record {
       stops = (record { dot = refl; collate = refl; follow = refl }, refl, refl);
       as_mark = refl;
@@ -474,12 +441,10 @@ join_found : {m : Mark} → JoinMark m → (q : List Lexeme)
     → join_begins (lexeme.Fixed m ∷ q) ≡ Some (lexeme.Fixed m ∷ q)
 unfolding join_begins after same_mark
 join_found comma_mark q = refl
-join_found cross_mark q = refl
-join_found inner_mark q = refl
-join_found join_mark q = refl
+join_found _ q = refl
 
--- a join begins with one of the four marks
-joined_begins : {cross : Bool} {ts : List Lexeme} {x : SourceTree} → Joined cross ts x
+-- a join begins with one of these marks
+joined_begins : {ts : List Lexeme} {x : SourceTree} → Joined ts x
     → (q : List Lexeme) × (ts ≡ lexeme.Fixed mark.Join ∷ q)
 joined_begins (s.joined {fs = fs} {bs = bs} t c e) = (fs ++ bs, e)
 
@@ -489,6 +454,8 @@ join_first (s.comma {ts} t) = (mark.Comma, comma_mark, ts, refl)
 join_first (s.plain t) = let k = joined_begins t in (mark.Join, join_mark, k.0, k.1)
 join_first (s.inner {ts} t) = (mark.Inner, inner_mark, ts, refl)
 join_first (s.cross {ts} t) = (mark.Cross, cross_mark, ts, refl)
+join_first (s.left {ts} t) = (mark.Left, left_mark, ts, refl)
+join_first (s.left_outer {ts} t) = (mark.Left, left_mark, lexeme.Fixed mark.Outer ∷ ts, refl)
 
 on_ends : (q : List Lexeme)
     → (after mark.As (lexeme.Fixed mark.On ∷ q) ≡ None)
@@ -520,40 +487,41 @@ module _ (n : ℕ) where
   condition_read (s.present {m} {ts} x) fits rest none stop =
       rw (after-same m (ts ++ rest), expressions_complete n x (omega arith) rest stop) refl
 
-  item_star : (rest : List Lexeme)
-      → item_at (expr_at (below n)) (lexeme.Fixed mark.Star ∷ rest) ≡ Some (statement.Star, rest)
-  unfolding item_at
-  item_star rest = rw (after-same mark.Star rest) refl
+  result_star : (rest : List Lexeme)
+      → result_at (expr_at (below n)) (lexeme.Fixed mark.Star ∷ rest) ≡ Some (statement.Star, rest)
+  unfolding result_at
+  result_star rest = rw (after-same mark.Star rest) refl
 
-  item_table_star : (t : List ℕ) (d : Option Direction) (rest : List Lexeme)
-      → item_at (expr_at (below n))
+  result_table_star : (t : List ℕ) (d : Option Direction) (rest : List Lexeme)
+      → result_at (expr_at (below n))
       (lexeme.Name t d ∷ lexeme.Fixed mark.Dot ∷ lexeme.Fixed mark.Star ∷ rest)
       ≡ Some (statement.TableStar t, rest)
-  unfolding item_at table_star_at name_at after same_mark
-  item_table_star t d rest = refl
+  unfolding result_at table_star_at name_at after same_mark
+  result_table_star t d rest = refl
 
-  item_value : (ts q rest : List Lexeme) (x : Tree) (a : Option (List ℕ))
+  result_value : (ts q rest : List Lexeme) (x : Tree) (a : Option (List ℕ))
       → after mark.Star ts ≡ None → table_star_at ts ≡ None → expr_at (below n) ts ≡ Some (x, q)
       → alias_at true q ≡ Some (a, rest)
-      → item_at (expr_at (below n)) ts ≡ Some (statement.Value x a, rest)
-  unfolding item_at value_item_at
-  item_value ts q rest x a star table e f = rw (star, table, e, f) refl
+      → result_at (expr_at (below n)) ts ≡ Some (statement.Value x a, rest)
+  unfolding result_at value_result_at
+  result_value ts q rest x a star table e f = rw (star, table, e, f) refl
 
-  item_read : (ts : List Lexeme) (x : ItemTree) → Result ts x → length ts ≤ n → (rest : List Lexeme)
-      → EndsItem rest → item_at (expr_at (below n)) (ts ++ rest) ≡ Some (x, rest)
-  item_read ts x s.star fits rest ends = item_star rest
-  item_read ts x (s.table_star t d) fits rest ends = item_table_star t d rest
-  item_read ts x (s.value {fs = fs} {bs = bs} {x = y} {a = a} k l e) fits rest ends =
+  result_read : (ts : List Lexeme) (x : ItemTree) → Result ts x → length ts ≤ n
+      → (rest : List Lexeme)
+      → EndsResult rest → result_at (expr_at (below n)) (ts ++ rest) ≡ Some (x, rest)
+  result_read ts x s.star fits rest ends = result_star rest
+  result_read ts x (s.table_star t d) fits rest ends = result_table_star t d rest
+  result_read ts x (s.value {fs = fs} {bs = bs} {x = y} {a = a} k l e) fits rest ends =
       let long = lengths ts fs bs e in
       let stop = alias_stops l rest ends.stops in
-      rw (parts ts fs bs rest e) (item_value (fs ++ (bs ++ rest)) (bs ++ rest) rest y a
+      rw (parts ts fs bs rest e) (result_value (fs ++ (bs ++ rest)) (bs ++ rest) rest y a
       (no_mark k (bs ++ rest)).1 (no_star k (bs ++ rest) stop.0.dot)
       (expressions_complete n k (omega arith) (bs ++ rest) stop)
       (alias_read l rest ends.as_mark ends.label))
 
-  joined_read : {cross : Bool} {ts : List Lexeme} {x : SourceTree} → Joined cross ts x
-      → length ts ≤ n → (rest : List Lexeme) → EndsSource rest
-      → joined_source_at (expr_at (below n)) cross (ts ++ rest) ≡ Some (x, rest)
+  joined_read : {ts : List Lexeme} {x : SourceTree} → Joined ts x → length ts ≤ n
+      → (rest : List Lexeme) → EndsSource rest
+      → joined_source_at (expr_at (below n)) (ts ++ rest) ≡ Some (x, rest)
   unfolding joined_source_at
   joined_read (s.joined {ts = ts} {fs = fs} {bs = bs} t c e) fits rest ends =
       let q : List Lexeme = fs ++ bs in
@@ -569,27 +537,41 @@ module _ (n : ℕ) where
         condition_read c (omega arith) rest ends.on ends.stops,
       ) refl
 
-  join_comma : (q : List Lexeme) (z : Read SourceTree) → source_at false q ≡ z
+  join_comma : (q : List Lexeme) (z : Read SourceTree) → source_at q ≡ z
       → join_at (expr_at (below n)) (lexeme.Fixed mark.Comma ∷ q) ≡ z
   unfolding join_at
   join_comma q z e = rw (after-same mark.Comma q) e
 
-  join_cross : (q : List Lexeme) (z : Read SourceTree)
-      → joined_source_at (expr_at (below n)) true q ≡ z
-      → join_at (expr_at (below n)) (lexeme.Fixed mark.Cross ∷ q) ≡ z
+  join_cross : (q rest : List Lexeme) (x : SourceTree)
+      → joined_source_at (expr_at (below n)) q ≡ Some (x, rest)
+      → join_at (expr_at (below n)) (lexeme.Fixed mark.Cross ∷ q) ≡ Some (cross_joined x, rest)
   unfolding join_at after same_mark
-  join_cross q z e = e
+  join_cross q rest x e = rw e refl
+
+  join_left : (q rest : List Lexeme) (x : SourceTree)
+      → joined_source_at (expr_at (below n)) (lexeme.Fixed mark.Join ∷ q) ≡ Some (x, rest)
+      → join_at (expr_at (below n)) (lexeme.Fixed mark.Left ∷ lexeme.Fixed mark.Join ∷ q)
+      ≡ Some (left_joined x, rest)
+  unfolding join_at past after same_mark
+  join_left q rest x e = rw e refl
+
+  join_left_outer : (q rest : List Lexeme) (x : SourceTree)
+      → joined_source_at (expr_at (below n)) q ≡ Some (x, rest)
+      → join_at (expr_at (below n)) (lexeme.Fixed mark.Left ∷ lexeme.Fixed mark.Outer ∷ q)
+      ≡ Some (left_joined x, rest)
+  unfolding join_at past after same_mark
+  join_left_outer q rest x e = rw e refl
 
   join_inner : (q : List Lexeme) (z : Read SourceTree)
-      → joined_source_at (expr_at (below n)) false q ≡ z
+      → joined_source_at (expr_at (below n)) q ≡ z
       → join_at (expr_at (below n)) (lexeme.Fixed mark.Inner ∷ q) ≡ z
-  unfolding join_at after same_mark
+  unfolding join_at past after same_mark
   join_inner q z e = e
 
   join_plain : (q : List Lexeme) (z : Read SourceTree)
-      → joined_source_at (expr_at (below n)) false (lexeme.Fixed mark.Join ∷ q) ≡ z
+      → joined_source_at (expr_at (below n)) (lexeme.Fixed mark.Join ∷ q) ≡ z
       → join_at (expr_at (below n)) (lexeme.Fixed mark.Join ∷ q) ≡ z
-  unfolding join_at after same_mark
+  unfolding join_at past after same_mark
   join_plain q z e = e
 
   join_read : {ts : List Lexeme} {x : SourceTree} → Join ts x → length ts ≤ n → (rest : List Lexeme)
@@ -600,11 +582,18 @@ module _ (n : ℕ) where
       let k = joined_begins t in
       let is : ts ++ rest ≡ lexeme.Fixed mark.Join ∷ (k.0 ++ rest) = ap (λ q. q ++ rest) k.1 in
       rw is (join_plain (k.0 ++ rest) _
-      (ap (joined_source_at (expr_at (below n)) false) (sym is) ∙ joined_read t fits rest ends))
+      (ap (joined_source_at (expr_at (below n))) (sym is) ∙ joined_read t fits rest ends))
   join_read (s.inner {ts} t) fits rest ends =
       join_inner (ts ++ rest) _ (joined_read t (omega arith) rest ends)
-  join_read (s.cross {ts} t) fits rest ends =
-      join_cross (ts ++ rest) _ (joined_read t (omega arith) rest ends)
+  join_read (s.cross {ts} {s = x} t) fits rest ends =
+      join_cross (ts ++ rest) rest x (joined_read t (omega arith) rest ends)
+  join_read (s.left {ts} {s = x} t) fits rest ends =
+      let k = joined_begins t in
+      let is : ts ++ rest ≡ lexeme.Fixed mark.Join ∷ (k.0 ++ rest) = ap (λ q. q ++ rest) k.1 in
+      rw is (join_left (k.0 ++ rest) rest x
+      (ap (joined_source_at (expr_at (below n))) (sym is) ∙ joined_read t (omega arith) rest ends))
+  join_read (s.left_outer {ts} {s = x} t) fits rest ends =
+      join_left_outer (ts ++ rest) rest x (joined_read t (omega arith) rest ends)
 
   joins_step : (m : ℕ) (ts q rest : List Lexeme) (x : SourceTree) (xs : List SourceTree)
       → join_at (expr_at (below n)) ts ≡ Some (x, q)
@@ -678,35 +667,35 @@ module _ (n : ℕ) where
   set_read ts x (s.set {ts = q} c d k) fits rest stop =
       rw (after-same mark.Eq (q ++ rest), expressions_complete n k (omega arith) rest stop) refl
 
-  item_not_all : {ts : List Lexeme} {x : ItemTree} → Result ts x → (rest : List Lexeme)
+  result_not_all : {ts : List Lexeme} {x : ItemTree} → Result ts x → (rest : List Lexeme)
       → after mark.All (ts ++ rest) ≡ None
   unfolding after same_mark
-  item_not_all s.star rest = refl
-  item_not_all (s.table_star t d) rest = refl
-  item_not_all (s.value {ts} {fs} {bs} k l e) rest =
+  result_not_all s.star rest = refl
+  result_not_all (s.table_star t d) rest = refl
+  result_not_all (s.value {ts} {fs} {bs} k l e) rest =
       rw (parts ts fs bs rest e) (no_mark k (bs ++ rest)).0
 
-  items_not_all : {ts : List Lexeme} {xs : List ItemTree} → Listed Result ts xs
+  results_not_all : {ts : List Lexeme} {xs : List ItemTree} → Listed Result ts xs
       → (rest : List Lexeme) → after mark.All (ts ++ rest) ≡ None
-  items_not_all (s.last r) rest = item_not_all r rest
-  items_not_all (s.more {ts} {fs} {bs} r t e) rest =
+  results_not_all (s.last r) rest = result_not_all r rest
+  results_not_all (s.more {ts} {fs} {bs} r t e) rest =
       rw (parts ts fs (lexeme.Fixed mark.Comma ∷ bs) rest e)
-      (item_not_all r (lexeme.Fixed mark.Comma ∷ (bs ++ rest)))
+      (result_not_all r (lexeme.Fixed mark.Comma ∷ (bs ++ rest)))
 
   past_read : {qs : List Lexeme} → PerhapsAll qs → (rest : List Lexeme) → after mark.All rest ≡ None
-      → past_all (qs ++ rest) ≡ rest
-  unfolding past_all
+      → past mark.All (qs ++ rest) ≡ rest
+  unfolding past
   past_read s.none rest none = rw none refl
   past_read s.all rest none = rw (after-same mark.All rest) refl
 
-  from_read : {items : List ItemTree} {ss fs ks cs : List Lexeme} {sources : List SourceTree}
+  from_read : {results : List ItemTree} {ss fs ks cs : List Lexeme} {sources : List SourceTree}
       {filter : Option Tree} {keys : List KeyTree} {cuts : Cuts} →
       Sources ss sources → Condition mark.Where fs filter → SortKeys ks keys → Limits cs cuts →
       length ss ≤ n → length fs ≤ n → length ks ≤ n →
-      from_at (expr_at (below n)) items (ss ++ (fs ++ (ks ++ cs)))
+      from_at (expr_at (below n)) results (ss ++ (fs ++ (ks ++ cs)))
       ≡ Some (
         record {
-          items = items;
+          items = results;
           sources = sources;
           filter = filter;
           keys = keys;
@@ -716,7 +705,7 @@ module _ (n : ℕ) where
         [],
       )
   unfolding from_at
-  from_read {items} {ss} {fs} {ks} {cs} a b c d one two three =
+  from_read {results} {ss} {fs} {ks} {cs} a b c d one two three =
       let l = limits_closed d in
       let k = keys_closed c d in
       let f = filter_closed b k.0 in
@@ -746,8 +735,8 @@ module _ (n : ℕ) where
   unfolding statement_at after same_mark
   delete_begins q z e = e
 
-  ends_item : {ts : List Lexeme} → Closed ts → EndsItem ts
-  ends_item k = record { stops = k.stops; as_mark = k.as_mark; label = k.label true }
+  ends_result : {ts : List Lexeme} → Closed ts → EndsResult ts
+  ends_result k = record { stops = k.stops; as_mark = k.as_mark; label = k.label true }
 
   -- a filter at the end of a statement
   filter_ends : {fs : List Lexeme} {f : Option Tree} → Condition mark.Where fs f → Closed fs
@@ -762,8 +751,8 @@ module _ (n : ℕ) where
 
   pub statement_read : {ts : List Lexeme} {x : StatementTree} → IsSpelled ts x → length ts ≤ n
       → statement_at (expr_at (below n)) ts ≡ Some (x, [])
-  unfolding select_at items_at update_at sets_at delete_at
-  statement_read (s.select {ts} {qs} {is} {ss} {fs} {ks} {cs} {items} {sources} {filter} {keys}
+  unfolding select_at results_at update_at sets_at delete_at
+  statement_read (s.select {ts} {qs} {is} {ss} {fs} {ks} {cs} {results} {sources} {filter} {keys}
       {cuts} q i a b c d e) fits =
       let behind : List Lexeme = ss ++ (fs ++ (ks ++ cs)) in
       let tail : List Lexeme = is ++ lexeme.Fixed mark.From ∷ behind in
@@ -774,14 +763,14 @@ module _ (n : ℕ) where
       let l4 = length-append fs (ks ++ cs) in
       let l5 = length-append ks cs in
       let k = closed_at from_mark behind in
-      let read = listed_read Result (item_at (expr_at (below n))) EndsItem n item_read item_apart i
-      (omega arith) (lexeme.Fixed mark.From ∷ behind) (ends_item k) k.comma in
+      let read = listed_read Result (result_at (expr_at (below n))) EndsResult n result_read
+      result_apart i (omega arith) (lexeme.Fixed mark.From ∷ behind) (ends_result k) k.comma in
       rw e (select_begins (qs ++ tail) _
       (rw (
-        past_read q tail (items_not_all i (lexeme.Fixed mark.From ∷ behind)),
+        past_read q tail (results_not_all i (lexeme.Fixed mark.From ∷ behind)),
         read,
         after-same mark.From behind,
-        from_read {items = items} a b c d (omega arith) (omega arith)
+        from_read {results = results} a b c d (omega arith) (omega arith)
             (omega arith),
       ) refl))
   statement_read (s.update {ts} {ss} {us} {fs} t u c e) fits =

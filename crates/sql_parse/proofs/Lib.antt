@@ -4,5 +4,3 @@ pub mod Complete
 pub mod SoundStatements
 pub mod CompleteStatements
 pub mod Whole
-pub mod TokenSteps
-pub mod NamedParameters

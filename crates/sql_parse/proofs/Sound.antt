@@ -1,6 +1,6 @@
 -- What is read as an expression is spelled so.
-use Rattle.std.proofs.Common.{◌≡◌, ℕ, ℤ, suc, zero, Bool, true, false, ◌⊎◌, inl, inr, Option, None}
-use Rattle.std.proofs.Common.{Some, List, [], ◌∷◌, ◌++◌, length, refl, ap, sym, ◌∙◌, subst}
+use Rattle.std.proofs.Common.{◌≡◌, ℕ, ℤ, suc, zero, Bool, true, false, inl, inr, Option, None}
+use Rattle.std.proofs.Common.{Some, List, [], ◌∷◌, ◌++◌, refl, ap, sym, ◌∙◌, subst}
 use Rattle.std.proofs.Common.{append_assoc}
 use Rattle.sql_meaning.specs.Values.{Value}
 use Rattle.sql_meaning.specs.Values as value
@@ -14,16 +14,17 @@ use Rattle.sql_read.specs.declared.lexeme.Mark.{Mark}
 use Rattle.sql_read.specs.declared.lexeme.Mark.TheVariants as mark
 use Rattle.sql_read.specs.Lexemes.{Lexeme}
 use Rattle.sql_read.specs.Lexemes as lexeme
-use Rattle.sql_read.specs.Reading.{◌>>=◌, after, name_at, Read, Reader, more_at, list_at}
+use Rattle.sql_read.specs.Reading.{◌>>=◌, after, name_at, Read, Reader, list_at}
 use Rattle.sql_read.specs.Leaves.{signed, number_at, named_at, leaf_at, collated_at}
 use Rattle.sql_read.specs.Expressions.{Below, joined, below, expr_at, and_at, not_at, test_at}
-use Rattle.sql_read.specs.Expressions.{tested_at, one_of_at, entries_at, between_at, right_at}
+use Rattle.sql_read.specs.Expressions.{tested_at, one_of_at, entries_at, between_at, like_at}
+use Rattle.sql_read.specs.Expressions.{right_at}
 use Rattle.sql_read.specs.Expressions.{operand_at, primary_at, enclosed_at, op_at, null_at, is_at}
-use Rattle.sql_read.specs.Expressions.{null_test_at, range_at, follow_at}
+use Rattle.sql_read.specs.Expressions.{null_test_at, word_test_at, follow_at}
 use Rattle.sql_parse.specs.Grammar.{Level, Spells, Members, IsOp, IsNullTest, IsNumber, perhaps_not}
 use Rattle.sql_parse.specs.Grammar as g
 use Rattle.sql_parse.proofs.Steps.{bind_ok, branch_ok, given_ok, after_ok, name_ok, Takes, IsSound}
-use Rattle.sql_parse.proofs.Steps.{here, under, moved}
+use Rattle.sql_parse.proofs.Steps.{here, under, moved, behind, answered, list_ok}
 
 -- Marks behind the first operand of a test.
 
@@ -144,30 +145,32 @@ FollowMarks ms (follow.Cmp o) = (m : Mark) × IsOp m o × (ms ≡ lexeme.Fixed m
 FollowMarks ms (follow.Null neg) = IsNullTest neg ms
 FollowMarks ms (follow.Between neg) = ms ≡ perhaps_not neg mark.Between
 FollowMarks ms (follow.OneOf neg) = ms ≡ perhaps_not neg mark.In
+FollowMarks ms (follow.Like neg) = ms ≡ perhaps_not neg mark.Like
 
-range_ok : (neg : Bool) (ts : List Lexeme) (f : Follow) (r : List Lexeme)
-    → range_at neg ts ≡ Some (f, r) →
-    ((f ≡ follow.Between neg) × (ts ≡ lexeme.Fixed mark.Between ∷ r))
-    ⊎ ((f ≡ follow.OneOf neg) × (ts ≡ lexeme.Fixed mark.In ∷ r))
-unfolding range_at
-range_ok neg ts f r e =
+word_took : (m : Mark) (neg : Bool) (went : Follow) → FollowMarks (perhaps_not neg m) went
+    → (ts q : List Lexeme) (f : Follow) (r : List Lexeme) → after m ts ≡ Some q →
+    ◌≡◌ {A = Option (Follow × List Lexeme)} (Some (went, q)) (Some (f, r)) →
+    (k : Mark) × (ts ≡ lexeme.Fixed k ∷ r) × FollowMarks (perhaps_not neg k) f
+word_took m neg went is ts q f r next e =
+    let same = given_ok went f q r e in (
+      m,
+      after_ok m ts q next ∙ ap (λ z. lexeme.Fixed m ∷ z) same.1,
+      subst (λ z. FollowMarks (perhaps_not neg m) z) same.0 is,
+    )
+
+word_test_ok : (neg : Bool) (ts : List Lexeme) (f : Follow) (r : List Lexeme)
+    → word_test_at neg ts ≡ Some (f, r) →
+    (k : Mark) × (ts ≡ lexeme.Fixed k ∷ r) × FollowMarks (perhaps_not neg k) f
+unfolding word_test_at
+word_test_ok neg ts f r e =
     elim (branch_ok (after mark.Between ts) _ _ _ e) [
-      | inr w ↦
-          let same = given_ok (follow.Between neg) f w.0 r w.2 in
-          inl (
-            sym same.0,
-            after_ok mark.Between ts w.0 w.1
-                ∙ ap (λ z. lexeme.Fixed mark.Between ∷ z) same.1,
-          )
-      | inl w ↦ elim (branch_ok (after mark.In ts) _ _ _ w.1) [
-        | inr w ↦
-            let same = given_ok (follow.OneOf neg) f w.0 r w.2 in
-            inr (
-              sym same.0,
-              after_ok mark.In ts w.0 w.1
-                  ∙ ap (λ z. lexeme.Fixed mark.In ∷ z) same.1,
-            )
-        | inl w ↦ absurd (cc (w.1))
+      | inr w ↦ word_took mark.Between neg (follow.Between neg) refl ts w.0 f r w.1 w.2
+      | inl w ↦ elim (branch_ok (after mark.Like ts) _ _ _ w.1) [
+        | inr w ↦ word_took mark.Like neg (follow.Like neg) refl ts w.0 f r w.1 w.2
+        | inl w ↦ elim (branch_ok (after mark.In ts) _ _ _ w.1) [
+          | inr w ↦ word_took mark.In neg (follow.OneOf neg) refl ts w.0 f r w.1 w.2
+          | inl w ↦ absurd (cc (w.1))
+        ]
       ]
     ]
 
@@ -188,79 +191,25 @@ follow_ok ts f r e =
             let k = null_test_ok ts w.0.0 w.0.1 w.1 in
             (k.0, k.1 ∙ ap (λ z. k.0 ++ z) same.1, subst (λ z. FollowMarks k.0 z) same.0 k.2)
         | inl w ↦ elim (branch_ok (after mark.Not ts) _ _ _ w.1) [
-          | inl w ↦ elim (range_ok false ts f r w.1) [
-            | inl k ↦ (lexeme.Fixed mark.Between ∷ [], k.1, rw k.0 refl)
-            | inr k ↦ (lexeme.Fixed mark.In ∷ [], k.1, rw k.0 refl)
-          ]
-          | inr w ↦ elim (range_ok true w.0 f r w.2) [
-            | inl k ↦ (
-              lexeme.Fixed mark.Not ∷ lexeme.Fixed mark.Between ∷ [],
-              after_ok mark.Not ts w.0 w.1 ∙ ap (λ z. lexeme.Fixed mark.Not ∷ z) k.1,
-              rw k.0 refl,
-            )
-            | inr k ↦ (
-              lexeme.Fixed mark.Not ∷ lexeme.Fixed mark.In ∷ [],
-              after_ok mark.Not ts w.0 w.1 ∙ ap (λ z. lexeme.Fixed mark.Not ∷ z) k.1,
-              rw k.0 refl,
-            )
-          ]
+          | inl w ↦
+              let k = word_test_ok false ts f r w.1 in
+              (lexeme.Fixed k.0 ∷ [], k.1, k.2)
+          | inr w ↦
+              let k = word_test_ok true w.0 f r w.2 in (
+                lexeme.Fixed mark.Not ∷ lexeme.Fixed k.0 ∷ [],
+                after_ok mark.Not ts w.0 w.1 ∙ ap (λ z. lexeme.Fixed mark.Not ∷ z) k.1,
+                k.2,
+              )
         ]
       ]
     ]
 
 -- Lists of members, of any level.
-
-none_more : (l : Level) (m : Mark) (ts : List Lexeme) (x : Tree) (front : List Lexeme)
-    (xs : List Tree)
-    (rest : List Lexeme) → Spells l front x
-    → ◌≡◌ {A = Read (List Tree)} (Some ([], ts)) (Some (xs, rest)) →
-    Takes (Members l m) (front ++ ts) (x ∷ xs) rest
-none_more l m ts x front xs rest first e =
-    let is = given_ok [] xs ts rest e in
-    (front, ap (λ r. front ++ r) is.1, subst (λ zs. Members l m front (x ∷ zs)) is.0 (g.last first))
-
-more_ok : (p : Reader Tree) (l : Level) (m : Mark) → IsSound (Spells l) p
-    → (n : ℕ) (ts : List Lexeme) (x : Tree)
-    (front : List Lexeme) (xs : List Tree) (rest : List Lexeme) → Spells l front x →
-    more_at (after m) p n ts ≡ Some (xs, rest) → Takes (Members l m) (front ++ ts) (x ∷ xs) rest
-unfolding more_at
-more_ok p l m sound zero ts x front xs rest first e = none_more l m ts x front xs rest first e
-more_ok p l m sound (suc n) ts x front xs rest first e =
-    elim (branch_ok (after m ts) _ _ _ e) [
-      | inl w ↦ none_more l m ts x front xs rest first w.1
-      | inr w ↦
-          let b = bind_ok (p w.0) _ _ w.2 in
-          let y = b.0 in
-          let d = bind_ok (more_at (after m) p n y.1) _ _ b.2 in
-          let zs = d.0 in
-          let t = sound w.0 y.0 y.1 b.1 in
-          let ih = more_ok p l m sound n y.1 y.0 t.0 zs.0 zs.1 t.2 d.1 in
-          let is : ts ≡ lexeme.Fixed m ∷ (ih.0 ++ zs.1) =
-          after_ok m ts w.0 w.1 ∙ ap (λ r. lexeme.Fixed m ∷ r) (t.1 ∙ ih.1) in
-          let end = given_ok (y.0 ∷ zs.0) xs zs.1 rest d.2 in (
-            front ++ lexeme.Fixed m ∷ ih.0,
-            ap (λ r. front ++ r) is ∙ sym (append_assoc front (lexeme.Fixed m ∷ ih.0) zs.1)
-                ∙ ap (λ r. (front ++ lexeme.Fixed m ∷ ih.0) ++ r) end.1,
-            subst (λ ys. Members l m (front ++ lexeme.Fixed m ∷ ih.0) (x ∷ ys)) end.0
-                (g.more first ih.2 refl),
-          )
-    ]
-
-list_ok : (p : Reader Tree) (l : Level) (m : Mark) → IsSound (Spells l) p
+members_ok : (p : Reader Tree) (l : Level) (m : Mark) → IsSound (Spells l) p
     → IsSound (Members l m) (list_at p (after m) p)
-unfolding list_at
-list_ok p l m sound ts xs rest e =
-    let b = bind_ok (p ts) _ _ e in
-    let y = b.0 in
-    let d = bind_ok (more_at (after m) p (length y.1) y.1) _ _ b.2 in
-    let zs = d.0 in
-    let t = sound ts y.0 y.1 b.1 in
-    let all = more_ok p l m sound (length y.1) y.1 y.0 t.0 zs.0 zs.1 t.2 d.1 in
-    let end = given_ok (y.0 ∷ zs.0) xs zs.1 rest d.2 in (
-      all.0,
-      t.1 ∙ all.1 ∙ ap (λ r. all.0 ++ r) end.1,
-      subst (λ ys. Members l m all.0 ys) end.0 all.2,
-    )
+members_ok p l m sound =
+    list_ok (Spells l) (Members l m) m (λ ts x s. g.last s) (λ fs bs x xs s t. g.more s t refl) p
+    sound
 
 -- Leaves.
 
@@ -432,15 +381,11 @@ module _ (b : Below) (sounds : Sounds b) where
             rw t.1 (collated_ok d.0.0 t.0 t.2 d.0.1 x rest d.2)
         | inr w ↦
             let d = bind_ok (b.operand w.0) _ _ w.2 in
-            let is = given_ok (tree.Plus d.0.0) x d.0.1 rest d.2 in
-            let t = sounds.operand w.0 d.0.0 d.0.1 d.1 in
-            let s = subst (λ y. Spells g.operand (lexeme.Fixed mark.Plus ∷ t.0) y) is.0 (g.plus t.2)
-            in (
-              lexeme.Fixed mark.Plus ∷ t.0,
-              after_ok mark.Plus ts w.0 w.1
-                  ∙ ap (λ r. lexeme.Fixed mark.Plus ∷ r) (t.1 ∙ ap (λ r. t.0 ++ r) is.1),
-              s,
-            )
+            behind (Spells g.operand) (lexeme.Fixed mark.Plus) ts w.0 rest x
+            (after_ok mark.Plus ts w.0 w.1)
+            (answered (Spells g.operand) (λ fs z. Spells g.operand (lexeme.Fixed mark.Plus ∷ fs) z)
+            w.0 d.0.1 rest d.0.0 (tree.Plus d.0.0) x (λ fs t. g.plus t)
+            (given_ok (tree.Plus d.0.0) x d.0.1 rest d.2) (sounds.operand w.0 d.0.0 d.0.1 d.1))
       ]
 
   module _ (left : Tree) (front : List Lexeme) (s : Spells g.operand front left) where
@@ -499,6 +444,23 @@ module _ (b : Below) (sounds : Sounds b) where
               )
         ]
 
+    like_ok : (neg : Bool) (r : List Lexeme) (x : Tree) (rest : List Lexeme)
+        → like_at b neg left r ≡ Some (x, rest) →
+        Takes (Spells g.test) (front ++ (perhaps_not neg mark.Like ++ r)) x rest
+    unfolding like_at
+    like_ok neg r x rest e =
+        let d = bind_ok (operand_at b r) _ _ e in
+        let is = given_ok (tree.Like neg left d.0.0) x d.0.1 rest d.2 in
+        let t = operand_ok r d.0.0 d.0.1 d.1 in
+        let ms = perhaps_not neg mark.Like in
+        let inside : List Lexeme = front ++ (ms ++ t.0) in
+        let whole : r ≡ t.0 ++ rest = t.1 ∙ ap (λ q. t.0 ++ q) is.1 in
+        let same : front ++ (ms ++ (t.0 ++ rest)) ≡ inside ++ rest = simp append_assoc in (
+          inside,
+          ap (λ q. front ++ (ms ++ q)) whole ∙ same,
+          subst (λ y. Spells g.test inside y) is.0 (g.like neg s t.2 refl),
+        )
+
     one_of_ok : (neg : Bool) (r : List Lexeme) (x : Tree) (rest : List Lexeme)
         → one_of_at b neg left r ≡ Some (x, rest) →
         Takes (Spells g.test) (front ++ (perhaps_not neg mark.In ++ r)) x rest
@@ -512,7 +474,7 @@ module _ (b : Below) (sounds : Sounds b) where
               let ms = perhaps_not neg mark.In in
               elim (branch_ok (after mark.Close w.0) _ _ _ d.1) [
                 | inl v ↦
-                    let t = list_ok b.expr g.expr mark.Comma sounds.expr w.0 d.0.0
+                    let t = members_ok b.expr g.expr mark.Comma sounds.expr w.0 d.0.0
                     (lexeme.Fixed mark.Close ∷ d.0.1)
                     (enclosed_ok (list_at b.expr (after mark.Comma) b.expr) w.0 d.0.0 d.0.1 v.1)
                     in
@@ -560,6 +522,7 @@ module _ (b : Below) (sounds : Sounds b) where
     tested_ok (follow.Null neg) ms r k x rest e = null_tested_ok neg ms k r x rest e
     tested_ok (follow.Between neg) ms r k x rest e = rw k (between_ok neg r x rest e)
     tested_ok (follow.OneOf neg) ms r k x rest e = rw k (one_of_ok neg r x rest e)
+    tested_ok (follow.Like neg) ms r k x rest e = rw k (like_ok neg r x rest e)
 
   test_ok : IsSound (Spells g.test) (test_at b)
   unfolding test_at
@@ -584,32 +547,30 @@ module _ (b : Below) (sounds : Sounds b) where
             (test_ok ts x rest w.1)
         | inr w ↦
             let d = bind_ok (b.not w.0) _ _ w.2 in
-            let is = given_ok (tree.Not d.0.0) x d.0.1 rest d.2 in
-            let t = sounds.not w.0 d.0.0 d.0.1 d.1 in
-            let s = subst (λ y. Spells g.not (lexeme.Fixed mark.Not ∷ t.0) y) is.0 (g.negated t.2)
-            in (
-              lexeme.Fixed mark.Not ∷ t.0,
-              after_ok mark.Not ts w.0 w.1
-                  ∙ ap (λ r. lexeme.Fixed mark.Not ∷ r) (t.1 ∙ ap (λ r. t.0 ++ r) is.1),
-              s,
-            )
+            behind (Spells g.not) (lexeme.Fixed mark.Not) ts w.0 rest x
+            (after_ok mark.Not ts w.0 w.1)
+            (answered (Spells g.not) (λ fs z. Spells g.not (lexeme.Fixed mark.Not ∷ fs) z)
+            w.0 d.0.1 rest d.0.0 (tree.Not d.0.0) x (λ fs t. g.negated t)
+            (given_ok (tree.Not d.0.0) x d.0.1 rest d.2) (sounds.not w.0 d.0.0 d.0.1 d.1))
       ]
 
   and_ok : IsSound (Spells g.and) (and_at b)
   unfolding and_at
   and_ok ts x rest e =
       let d = bind_ok (list_at (not_at b) (after mark.And) (not_at b) ts) _ _ e in
-      let is = given_ok (joined tree.All d.0.0) x d.0.1 rest d.2 in
-      let t = list_ok (not_at b) g.not mark.And not_ok ts d.0.0 d.0.1 d.1 in
-      (t.0, t.1 ∙ ap (λ r. t.0 ++ r) is.1, subst (λ y. Spells g.and t.0 y) is.0 (g.all_of t.2))
+      let made = joined tree.All d.0.0 in
+      answered (Members g.not mark.And) (Spells g.and) ts d.0.1 rest d.0.0 made x
+      (λ fs t. g.all_of t) (given_ok made x d.0.1 rest d.2)
+      (members_ok (not_at b) g.not mark.And not_ok ts d.0.0 d.0.1 d.1)
 
   expr_ok : IsSound (Spells g.expr) (expr_at b)
   unfolding expr_at
   expr_ok ts x rest e =
       let d = bind_ok (list_at (and_at b) (after mark.Or) (and_at b) ts) _ _ e in
-      let is = given_ok (joined tree.Any d.0.0) x d.0.1 rest d.2 in
-      let t = list_ok (and_at b) g.and mark.Or and_ok ts d.0.0 d.0.1 d.1 in
-      (t.0, t.1 ∙ ap (λ r. t.0 ++ r) is.1, subst (λ y. Spells g.expr t.0 y) is.0 (g.any_of t.2))
+      let made = joined tree.Any d.0.0 in
+      answered (Members g.and mark.Or) (Spells g.expr) ts d.0.1 rest d.0.0 made x
+      (λ fs t. g.any_of t) (given_ok made x d.0.1 rest d.2)
+      (members_ok (and_at b) g.and mark.Or and_ok ts d.0.0 d.0.1 d.1)
 
 below_ok : (n : ℕ) → Sounds (below n)
 unfolding below

@@ -1,5 +1,6 @@
 -- What is read as a statement is spelled so.
-use Rattle.std.proofs.Common.{◌≡◌, ℕ, ℤ, suc, zero, Bool, true, false, inl, inr, Option, None, Some}
+use Rattle.std.proofs.Common.{◌≡◌, ℕ, ℤ, suc, zero, Bool, true, false, ◌⊎◌, inl, inr, Option, None}
+use Rattle.std.proofs.Common.{Some}
 use Rattle.std.proofs.Common.{List, [], ◌∷◌, ◌++◌, length, refl, ap, sym, ◌∙◌, subst, append_assoc}
 use Rattle.sql_tree.specs.Trees.{Tree}
 use Rattle.sql_tree.specs.Statements.{SourceTree, ItemTree, KeyTree, SelectTree, UpdateTree}
@@ -13,23 +14,25 @@ use Rattle.sql_read.specs.declared.lexeme.Mark.{Mark}
 use Rattle.sql_read.specs.declared.lexeme.Mark.TheVariants as mark
 use Rattle.sql_read.specs.Lexemes.{Lexeme}
 use Rattle.sql_read.specs.Lexemes as lexeme
-use Rattle.sql_read.specs.Reading.{◌>>=◌, after, name_at, Read, Reader, more_at, list_at}
+use Rattle.sql_read.specs.Reading.{◌>>=◌, after, past, name_at, Read, Reader, more_at, list_at}
 use Rattle.sql_read.specs.Leaves.{signed}
-use Rattle.sql_read.specs.Parts.{Cuts, optional_at, label_at, alias_at, table_star_at}
-use Rattle.sql_read.specs.Parts.{value_item_at, item_at, source_named, source_at, joined_source_at}
-use Rattle.sql_read.specs.Parts.{join_at, join_begins, direction_at, key_by, key_at, keys_at}
-use Rattle.sql_read.specs.Parts.{count_at, param_at, cut_at, second_cut_at, cuts_at, set_to, set_at}
-use Rattle.sql_read.specs.Statements.{items_at, sources_at, sets_at, select_of, update_of}
-use Rattle.sql_read.specs.Statements.{delete_of, from_at, past_all, select_at, update_at, delete_at}
+use Rattle.sql_read.specs.Parts.{optional_at, label_at, alias_at, table_star_at}
+use Rattle.sql_read.specs.Parts.{value_result_at, result_at, source_named, source_at}
+use Rattle.sql_read.specs.Parts.{joined_source_at}
+use Rattle.sql_read.specs.Parts.{on_condition, cross_joined, left_joined, join_at, join_begins}
+use Rattle.sql_read.specs.Parts.{direction_at, key_by, key_at, keys_at, set_to, set_at}
+use Rattle.sql_read.specs.Limits.{Cuts, count_at, param_at, cut_at, second_cut_at, limits_at}
+use Rattle.sql_read.specs.Statements.{results_at, sources_at, sets_at, select_of, update_of}
+use Rattle.sql_read.specs.Statements.{delete_of, from_at, select_at, update_at, delete_at}
 use Rattle.sql_read.specs.Statements.{statement_at}
 use Rattle.sql_parse.specs.Grammar.{Spells}
 use Rattle.sql_parse.specs.Grammar as g
-use Rattle.sql_parse.specs.Statements.{Listed, Condition, Label, Alias, Result, Table, on_condition}
+use Rattle.sql_parse.specs.Statements.{Listed, Condition, Label, Alias, Result, Table}
 use Rattle.sql_parse.specs.Statements.{Joined, Join, Joins, Sources, Directed, SortKey, SortKeys}
 use Rattle.sql_parse.specs.Statements.{Count, Limits, Setting, PerhapsAll, IsSpelled}
 use Rattle.sql_parse.specs.Statements as s
 use Rattle.sql_parse.proofs.Steps.{bind_ok, branch_ok, given_ok, after_ok, name_ok, Takes, IsSound}
-use Rattle.sql_parse.proofs.Steps.{here, moved}
+use Rattle.sql_parse.proofs.Steps.{here, under, moved, behind, answered, both, list_ok}
 
 -- Names and aliases.
 
@@ -109,70 +112,25 @@ table_star_ok ts t r e =
       ]
     ]
 
-table_ok : (cross : Bool) → IsSound (Table cross) (source_at cross)
+table_ok : IsSound Table source_at
 unfolding source_at
-table_ok cross ts x rest e =
+table_ok ts x rest e =
     let n = bind_ok (name_at ts) _ _ e in
     let k = name_ok ts n.0.0 n.0.1 n.1 in
     let d = bind_ok (alias_at false n.0.1) _ _ n.2 in
     let a = alias_ok false n.0.1 d.0.0 d.0.1 d.1 in
-    let same = given_ok (source_named n.0.0 d.0.0 cross None) x d.0.1 rest d.2 in
+    let same = given_ok (source_named n.0.0 d.0.0) x d.0.1 rest d.2 in
     let front : List Lexeme = lexeme.Name n.0.0 k.0 ∷ a.0 in (
       front,
       k.1 ∙ ap (λ q. lexeme.Name n.0.0 k.0 ∷ q) (a.1 ∙ ap (λ q. a.0 ++ q) same.1),
-      subst (λ z. Table cross front z) same.0 (s.table n.0.0 k.0 a.2),
+      subst (λ z. Table front z) same.0 (s.table n.0.0 k.0 a.2),
     )
 
 -- Lists with commas.
-
-none_more : {A : Type 0} (R : List Lexeme → A → Type 0) (ts : List Lexeme) (x : A)
-    (front : List Lexeme) (xs : List A)
-    (rest : List Lexeme) → R front x → ◌≡◌ {A = Read (List A)} (Some ([], ts)) (Some (xs, rest)) →
-    Takes (Listed R) (front ++ ts) (x ∷ xs) rest
-none_more R ts x front xs rest first e =
-    let is = given_ok [] xs ts rest e in
-    (front, ap (λ r. front ++ r) is.1, subst (λ zs. Listed R front (x ∷ zs)) is.0 (s.last first))
-
-more_ok : {A : Type 0} (R : List Lexeme → A → Type 0) (p : Reader A) → IsSound R p
-    → (n : ℕ) (ts : List Lexeme) (x : A)
-    (front : List Lexeme) (xs : List A) (rest : List Lexeme) → R front x →
-    more_at (after mark.Comma) p n ts ≡ Some (xs, rest)
-    → Takes (Listed R) (front ++ ts) (x ∷ xs) rest
-unfolding more_at
-more_ok R p sound zero ts x front xs rest first e = none_more R ts x front xs rest first e
-more_ok R p sound (suc n) ts x front xs rest first e =
-    elim (branch_ok (after mark.Comma ts) _ _ _ e) [
-      | inl w ↦ none_more R ts x front xs rest first w.1
-      | inr w ↦
-          let b = bind_ok (p w.0) _ _ w.2 in
-          let y = b.0 in
-          let d = bind_ok (more_at (after mark.Comma) p n y.1) _ _ b.2 in
-          let zs = d.0 in
-          let t = sound w.0 y.0 y.1 b.1 in
-          let ih = more_ok R p sound n y.1 y.0 t.0 zs.0 zs.1 t.2 d.1 in
-          let is : ts ≡ lexeme.Fixed mark.Comma ∷ (ih.0 ++ zs.1) =
-          after_ok mark.Comma ts w.0 w.1 ∙ ap (λ r. lexeme.Fixed mark.Comma ∷ r) (t.1 ∙ ih.1) in
-          let end = given_ok (y.0 ∷ zs.0) xs zs.1 rest d.2 in (
-            front ++ lexeme.Fixed mark.Comma ∷ ih.0,
-            ap (λ r. front ++ r) is ∙ sym (append_assoc front (lexeme.Fixed mark.Comma ∷ ih.0) zs.1)
-                ∙ ap (λ r. (front ++ lexeme.Fixed mark.Comma ∷ ih.0) ++ r) end.1,
-            subst (λ ys. Listed R (front ++ lexeme.Fixed mark.Comma ∷ ih.0) (x ∷ ys)) end.0
-                (s.more first ih.2 refl),
-          )
-    ]
-
 listed_ok : {A : Type 0} (R : List Lexeme → A → Type 0) (p : Reader A) → IsSound R p
     → IsSound (Listed R) (list_at p (after mark.Comma) p)
-unfolding list_at
-listed_ok R p sound ts xs rest e =
-    let b = bind_ok (p ts) _ _ e in
-    let y = b.0 in
-    let d = bind_ok (more_at (after mark.Comma) p (length y.1) y.1) _ _ b.2 in
-    let zs = d.0 in
-    let t = sound ts y.0 y.1 b.1 in
-    let all = more_ok R p sound (length y.1) y.1 y.0 t.0 zs.0 zs.1 t.2 d.1 in
-    let end = given_ok (y.0 ∷ zs.0) xs zs.1 rest d.2 in
-    (all.0, t.1 ∙ all.1 ∙ ap (λ r. all.0 ++ r) end.1, subst (λ ys. Listed R all.0 ys) end.0 all.2)
+listed_ok R p sound =
+    list_ok R (Listed R) mark.Comma (λ ts x r. s.last r) (λ fs bs x xs r t. s.more r t refl) p sound
 
 -- LIMIT and OFFSET.
 
@@ -282,8 +240,8 @@ second_ok x fs first ts c rest e =
       ]
     ]
 
-cuts_ok : IsSound Limits cuts_at
-unfolding cuts_at
+cuts_ok : IsSound Limits limits_at
+unfolding limits_at
 cuts_ok ts x rest e =
     elim (branch_ok (after mark.Limit ts) _ _ _ e) [
       | inl w ↦ here Limits [] rest ts x (None, None) s.none (given_ok (None, None) x ts rest w.1)
@@ -336,27 +294,35 @@ join_same ts r e =
       | inr w ↦ cc (w.2)
       | inl w ↦ elim (branch_ok (after mark.Cross ts) _ _ _ w.1) [
         | inr w ↦ cc (w.2)
-        | inl w ↦ elim (branch_ok (after mark.Inner ts) _ _ _ w.1) [
+        | inl w ↦ elim (branch_ok (after mark.Left ts) _ _ _ w.1) [
           | inr w ↦ cc (w.2)
-          | inl w ↦ elim (branch_ok (after mark.Join ts) _ _ _ w.1) [
+          | inl w ↦ elim (branch_ok (after mark.Inner ts) _ _ _ w.1) [
             | inr w ↦ cc (w.2)
-            | inl w ↦ absurd (cc (w.1))
+            | inl w ↦ elim (branch_ok (after mark.Join ts) _ _ _ w.1) [
+              | inr w ↦ cc (w.2)
+              | inl w ↦ absurd (cc (w.1))
+            ]
           ]
         ]
       ]
     ]
 
-past_ok : (ts r : List Lexeme) → past_all ts ≡ r
-    → (qs : List Lexeme) × PerhapsAll qs × (ts ≡ qs ++ r)
-unfolding past_all
-past_ok ts r e =
-    elim (branch_ok (after mark.All ts) _ _ _ e) [
-      | inl w ↦ ([], s.none, w.1)
-      | inr w ↦ (
-        lexeme.Fixed mark.All ∷ [],
-        s.all,
-        after_ok mark.All ts w.0 w.1 ∙ ap (λ q. lexeme.Fixed mark.All ∷ q) w.2,
-      )
+-- the mark is passed or doesn't stand here
+past_ok : (m : Mark) (ts : List Lexeme)
+    → (ts ≡ past m ts) ⊎ (ts ≡ lexeme.Fixed m ∷ past m ts)
+unfolding past
+past_ok m ts =
+    elim (branch_ok (after m ts) _ _ (past m ts) refl) [
+      | inl w ↦ inl w.1
+      | inr w ↦ inr (after_ok m ts w.0 w.1 ∙ ap (λ q. lexeme.Fixed m ∷ q) w.2)
+    ]
+
+past_all_ok : (ts : List Lexeme)
+    → (qs : List Lexeme) × PerhapsAll qs × (ts ≡ qs ++ past mark.All ts)
+past_all_ok ts =
+    elim (past_ok mark.All ts) [
+      | inl same ↦ ([], s.none, same)
+      | inr behind ↦ (lexeme.Fixed mark.All ∷ [], s.all, behind)
     ]
 
 -- Parts with expressions, over a reader of expressions.
@@ -368,36 +334,25 @@ module _ (p : Reader Tree) (sound : IsSound (Spells g.expr) p) where
         | inl w ↦ here (Condition m) [] rest ts x None s.absent (given_ok None x ts rest w.1)
         | inr w ↦
             let d = bind_ok (p w.0) _ _ w.2 in
-            let t = sound w.0 d.0.0 d.0.1 d.1 in
-            let same = given_ok (Some d.0.0) x d.0.1 rest d.2 in
-            let front : List Lexeme = lexeme.Fixed m ∷ t.0 in (
-              front,
-              after_ok m ts w.0 w.1
-                  ∙ ap (λ q. lexeme.Fixed m ∷ q) (t.1 ∙ ap (λ q. t.0 ++ q) same.1),
-              subst
-                  (λ z. Condition m front z) same.0 (s.present t.2),
-            )
+            behind (Condition m) (lexeme.Fixed m) ts w.0 rest x (after_ok m ts w.0 w.1)
+            (answered (Spells g.expr) (λ fs z. Condition m (lexeme.Fixed m ∷ fs) z) w.0 d.0.1 rest
+            d.0.0 (Some d.0.0) x (λ fs k. s.present k) (given_ok (Some d.0.0) x d.0.1 rest d.2)
+            (sound w.0 d.0.0 d.0.1 d.1))
       ]
 
-  value_item_ok : IsSound Result (value_item_at p)
-  unfolding value_item_at
-  value_item_ok ts x rest e =
+  value_result_ok : IsSound Result (value_result_at p)
+  unfolding value_result_at
+  value_result_ok ts x rest e =
       let d = bind_ok (p ts) _ _ e in
-      let t = sound ts d.0.0 d.0.1 d.1 in
       let k = bind_ok (alias_at true d.0.1) _ _ d.2 in
-      let a = alias_ok true d.0.1 k.0.0 k.0.1 k.1 in
-      let same = given_ok (statement.Value d.0.0 k.0.0) x k.0.1 rest k.2 in
-      let front : List Lexeme = t.0 ++ a.0 in (
-        front,
-        t.1 ∙ ap (λ q. t.0 ++ q) (a.1 ∙ ap (λ q. a.0 ++ q) same.1)
-            ∙ sym (append_assoc t.0 a.0 rest),
-        subst (λ z. Result front z) same.0
-            (s.value t.2 a.2 refl),
-      )
+      let made = statement.Value d.0.0 k.0.0 in
+      both (Spells g.expr) (Alias true) Result ts d.0.1 k.0.1 rest d.0.0 k.0.0 made x
+      (λ fs bs t a. s.value t a refl) (given_ok made x k.0.1 rest k.2) (sound ts d.0.0 d.0.1 d.1)
+      (alias_ok true d.0.1 k.0.0 k.0.1 k.1)
 
-  item_ok : IsSound Result (item_at p)
-  unfolding item_at
-  item_ok ts x rest e =
+  result_ok : IsSound Result (result_at p)
+  unfolding result_at
+  result_ok ts x rest e =
       elim (branch_ok (after mark.Star ts) _ _ _ e) [
         | inr w ↦
             let same = given_ok statement.Star x w.0 rest w.2 in
@@ -417,29 +372,79 @@ module _ (p : Reader Tree) (sound : IsSound (Spells g.expr) p) where
                     mark.Star ∷ q) same.1,
                 subst (λ z. Result front z) same.0 (s.table_star w.0.0 k.0),
               )
-          | inl w ↦ value_item_ok ts x rest w.1
+          | inl w ↦ value_result_ok ts x rest w.1
         ]
       ]
 
-  joined_ok : (cross : Bool) → IsSound (Joined cross) (joined_source_at p cross)
+  joined_ok : IsSound Joined (joined_source_at p)
   unfolding joined_source_at
-  joined_ok cross ts x rest e =
+  joined_ok ts x rest e =
       elim (branch_ok (after mark.Join ts) _ _ _ e) [
         | inl w ↦ absurd (cc (w.1))
         | inr w ↦
-            let d = bind_ok (source_at cross w.0) _ _ w.2 in
-            let t = table_ok cross w.0 d.0.0 d.0.1 d.1 in
+            let d = bind_ok (source_at w.0) _ _ w.2 in
             let h = bind_ok (optional_at mark.On p d.0.1) _ _ d.2 in
-            let k = condition_ok mark.On d.0.1 h.0.0 h.0.1 h.1 in
-            let same = given_ok (on_condition d.0.0 h.0.0) x h.0.1 rest h.2 in
-            let front : List Lexeme = lexeme.Fixed mark.Join ∷ (t.0 ++ k.0) in
-            let whole : w.0 ≡ (t.0 ++ k.0) ++ rest =
-            t.1 ∙ ap (λ q. t.0 ++ q) (k.1 ∙ ap (λ q. k.0 ++ q) same.1)
-            ∙ sym (append_assoc t.0 k.0 rest) in (
-              front,
-              after_ok mark.Join ts w.0 w.1 ∙ ap (λ q. lexeme.Fixed mark.Join ∷ q) whole,
-              subst (λ z. Joined cross front z) same.0 (s.joined t.2 k.2 refl),
-            )
+            let made = on_condition d.0.0 h.0.0 in
+            behind Joined (lexeme.Fixed mark.Join) ts w.0 rest x (after_ok mark.Join ts w.0 w.1)
+            (both Table (Condition mark.On) (λ fs z. Joined (lexeme.Fixed mark.Join ∷ fs) z) w.0
+            d.0.1 h.0.1 rest d.0.0 h.0.0 made x (λ fs bs t c. s.joined t c refl)
+            (given_ok made x h.0.1 rest h.2) (table_ok w.0 d.0.0 d.0.1 d.1)
+            (condition_ok mark.On d.0.1 h.0.0 h.0.1 h.1))
+      ]
+
+  -- what is read behind a join's word, with the flag that the word sets
+  flagged_ok : (flag : SourceTree → SourceTree) (q : List Lexeme) (x : SourceTree)
+      (rest : List Lexeme) →
+      ◌>>=◌ {B = SourceTree × List Lexeme} (joined_source_at p q) (λ r. Some (flag r.0, r.1))
+      ≡ Some (x, rest)
+      → Takes (λ ts z. (y : SourceTree) × Joined ts y × (flag y ≡ z)) q x rest
+  flagged_ok flag q x rest e =
+      let d = bind_ok (joined_source_at p q) _ _ e in
+      answered Joined (λ ts z. (y : SourceTree) × Joined ts y × (flag y ≡ z)) q d.0.1 rest d.0.0
+      (flag d.0.0) x (λ fs t. (d.0.0, t, refl)) (given_ok (flag d.0.0) x d.0.1 rest d.2)
+      (joined_ok q d.0.0 d.0.1 d.1)
+
+  cross_ok : (ts q : List Lexeme) (x : SourceTree) (rest : List Lexeme)
+      → after mark.Cross ts ≡ Some q
+      → Takes (λ ts z. (y : SourceTree) × Joined ts y × (cross_joined y ≡ z)) q x rest
+      → Takes Join ts x rest
+  cross_ok ts q x rest next t = (
+    lexeme.Fixed mark.Cross ∷ t.0,
+    after_ok mark.Cross ts q next ∙ ap (λ r. lexeme.Fixed mark.Cross ∷ r) t.1,
+    subst (λ z. Join (lexeme.Fixed mark.Cross ∷ t.0) z) t.2.2 (s.cross t.2.1),
+  )
+
+  left_ok : (ts q : List Lexeme) (x : SourceTree) (rest : List Lexeme) → after mark.Left ts ≡ Some q
+      → Takes (λ ts z. (y : SourceTree) × Joined ts y × (left_joined y ≡ z)) (past mark.Outer q) x
+      rest → Takes Join ts x rest
+  left_ok ts q x rest next t =
+      let is = after_ok mark.Left ts q next in
+      elim (past_ok mark.Outer q) [
+        | inl same ↦ (
+          lexeme.Fixed mark.Left ∷ t.0,
+          is ∙ ap (λ r. lexeme.Fixed mark.Left ∷ r) (same ∙ t.1),
+          subst (λ z. Join (lexeme.Fixed mark.Left ∷ t.0) z) t.2.2 (s.left t.2.1),
+        )
+        | inr behind ↦ (
+          lexeme.Fixed mark.Left ∷ lexeme.Fixed mark.Outer ∷ t.0,
+          is ∙ ap (λ r. lexeme.Fixed mark.Left ∷ r)
+              (behind ∙ ap (λ r. lexeme.Fixed mark.Outer ∷ r) t.1),
+          subst (λ z. Join (lexeme.Fixed mark.Left ∷ lexeme.Fixed mark.Outer ∷ t.0) z) t.2.2
+              (s.left_outer t.2.1),
+        )
+      ]
+
+  inner_ok : (ts : List Lexeme) (x : SourceTree) (rest : List Lexeme)
+      → joined_source_at p (past mark.Inner ts) ≡ Some (x, rest) → Takes Join ts x rest
+  inner_ok ts x rest e =
+      let t = joined_ok (past mark.Inner ts) x rest e in
+      elim (past_ok mark.Inner ts) [
+        | inl same ↦ (t.0, same ∙ t.1, s.plain t.2)
+        | inr behind ↦ (
+          lexeme.Fixed mark.Inner ∷ t.0,
+          behind ∙ ap (λ r. lexeme.Fixed mark.Inner ∷ r) t.1,
+          s.inner t.2,
+        )
       ]
 
   join_ok : IsSound Join (join_at p)
@@ -447,31 +452,15 @@ module _ (p : Reader Tree) (sound : IsSound (Spells g.expr) p) where
   join_ok ts x rest e =
       elim (branch_ok (after mark.Comma ts) _ _ _ e) [
         | inr w ↦
-            let t = table_ok false w.0 x rest w.2 in (
-              lexeme.Fixed mark.Comma ∷ t.0,
-              after_ok mark.Comma ts w.0 w.1
-                  ∙ ap (λ q. lexeme.Fixed mark.Comma ∷ q) t.1,
-              s.comma t.2,
-            )
+            behind Join (lexeme.Fixed mark.Comma) ts w.0 rest x (after_ok mark.Comma ts w.0 w.1)
+            (under Table (λ fs z. Join (lexeme.Fixed mark.Comma ∷ fs) z) w.0 rest x x
+            (λ fs t. s.comma t) (table_ok w.0 x rest w.2))
         | inl w ↦ elim (branch_ok (after mark.Cross ts) _ _ _ w.1) [
-          | inr w ↦
-              let t = joined_ok true w.0 x rest w.2 in (
-                lexeme.Fixed mark.Cross ∷ t.0,
-                after_ok mark.Cross ts w.0 w.1
-                    ∙ ap (λ q. lexeme.Fixed mark.Cross ∷ q) t.1,
-                s.cross t.2,
-              )
-          | inl w ↦ elim (branch_ok (after mark.Inner ts) _ _ _ w.1) [
-            | inr w ↦
-                let t = joined_ok false w.0 x rest w.2 in (
-                  lexeme.Fixed mark.Inner ∷ t.0,
-                  after_ok mark.Inner ts w.0 w.1
-                      ∙ ap (λ q. lexeme.Fixed mark.Inner ∷ q) t.1,
-                  s.inner t.2,
-                )
-            | inl w ↦
-                let t = joined_ok false ts x rest w.1 in
-                (t.0, t.1, s.plain t.2)
+          | inr w ↦ cross_ok ts w.0 x rest w.1 (flagged_ok cross_joined w.0 x rest w.2)
+          | inl w ↦ elim (branch_ok (after mark.Left ts) _ _ _ w.1) [
+            | inr w ↦ left_ok ts w.0 x rest w.1
+                (flagged_ok left_joined (past mark.Outer w.0) x rest w.2)
+            | inl w ↦ inner_ok ts x rest w.1
           ]
         ]
       ]
@@ -484,44 +473,33 @@ module _ (p : Reader Tree) (sound : IsSound (Spells g.expr) p) where
         | inl w ↦ here Joins [] rest ts x [] s.none (given_ok [] x ts rest w.1)
         | inr w ↦
             let d = bind_ok (join_at p w.0) _ _ w.2 in
-            let t = join_ok w.0 d.0.0 d.0.1 d.1 in
             let h = bind_ok (more_at join_begins (join_at p) n d.0.1) _ _ d.2 in
-            let k = joins_ok n d.0.1 h.0.0 h.0.1 h.1 in
-            let same = given_ok (d.0.0 ∷ h.0.0) x h.0.1 rest h.2 in
-            let front : List Lexeme = t.0 ++ k.0 in
-            let whole : ts ≡ front ++ rest =
-            join_same ts w.0 w.1 ∙ t.1 ∙ ap (λ q. t.0 ++ q) (k.1 ∙ ap (λ q. k.0 ++ q) same.1)
-            ∙ sym (append_assoc t.0 k.0 rest) in
-            (front, whole, subst (λ z. Joins front z) same.0 (s.more t.2 k.2 refl))
+            let made = d.0.0 ∷ h.0.0 in
+            moved Joins ts w.0 rest x (join_same ts w.0 w.1)
+            (both Join Joins Joins w.0 d.0.1 h.0.1 rest d.0.0 h.0.0 made x
+            (λ fs bs t k. s.more t k refl) (given_ok made x h.0.1 rest h.2)
+            (join_ok w.0 d.0.0 d.0.1 d.1) (joins_ok n d.0.1 h.0.0 h.0.1 h.1))
       ]
 
   sources_ok : IsSound Sources (sources_at p)
   unfolding sources_at list_at
   sources_ok ts x rest e =
-      let d = bind_ok (source_at false ts) _ _ e in
-      let t = table_ok false ts d.0.0 d.0.1 d.1 in
+      let d = bind_ok (source_at ts) _ _ e in
       let h = bind_ok (more_at join_begins (join_at p) (length d.0.1) d.0.1) _ _ d.2 in
-      let k = joins_ok (length d.0.1) d.0.1 h.0.0 h.0.1 h.1 in
-      let same = given_ok (d.0.0 ∷ h.0.0) x h.0.1 rest h.2 in
-      let front : List Lexeme = t.0 ++ k.0 in
-      let whole : ts ≡ front ++ rest =
-      t.1 ∙ ap (λ q. t.0 ++ q) (k.1 ∙ ap (λ q. k.0 ++ q) same.1)
-      ∙ sym (append_assoc t.0 k.0 rest) in
-      (front, whole, subst (λ z. Sources front z) same.0 (s.sources t.2 k.2 refl))
+      let made = d.0.0 ∷ h.0.0 in
+      both Table Joins Sources ts d.0.1 h.0.1 rest d.0.0 h.0.0 made x
+      (λ fs bs t k. s.sources t k refl) (given_ok made x h.0.1 rest h.2)
+      (table_ok ts d.0.0 d.0.1 d.1) (joins_ok (length d.0.1) d.0.1 h.0.0 h.0.1 h.1)
 
   key_ok : IsSound SortKey (key_at p)
   unfolding key_at
   key_ok ts x rest e =
       let d = bind_ok (p ts) _ _ e in
-      let t = sound ts d.0.0 d.0.1 d.1 in
       let h = bind_ok (direction_at d.0.1) _ _ d.2 in
-      let k = direction_ok d.0.1 h.0.0 h.0.1 h.1 in
-      let same = given_ok (key_by d.0.0 h.0.0) x h.0.1 rest h.2 in
-      let front : List Lexeme = t.0 ++ k.0 in
-      let whole : ts ≡ front ++ rest =
-      t.1 ∙ ap (λ q. t.0 ++ q) (k.1 ∙ ap (λ q. k.0 ++ q) same.1)
-      ∙ sym (append_assoc t.0 k.0 rest) in
-      (front, whole, subst (λ z. SortKey front z) same.0 (s.key t.2 k.2 refl))
+      let made = key_by d.0.0 h.0.0 in
+      both (Spells g.expr) Directed SortKey ts d.0.1 h.0.1 rest d.0.0 h.0.0 made x
+      (λ fs bs t k. s.key t k refl) (given_ok made x h.0.1 rest h.2) (sound ts d.0.0 d.0.1 d.1)
+      (direction_ok d.0.1 h.0.0 h.0.1 h.1)
 
   keys_ok : IsSound SortKeys (keys_at p)
   unfolding keys_at
@@ -565,25 +543,25 @@ module _ (p : Reader Tree) (sound : IsSound (Spells g.expr) p) where
 
   -- what follows FROM, up to the end of the statement
   abbrev TakesFrom : List ItemTree → List Lexeme → SelectTree → List Lexeme → Type 0
-  TakesFrom items ts x rest =
+  TakesFrom results ts x rest =
       (ss : List Lexeme) × (fs : List Lexeme) × (ks : List Lexeme) × (cs : List Lexeme) ×
       (sources : List SourceTree) × (filter : Option Tree) × (keys : List KeyTree) × (cuts : Cuts) ×
       Sources ss sources × Condition mark.Where fs filter × SortKeys ks keys × Limits cs cuts ×
-      (select_of items sources filter keys cuts ≡ x) × (ts ≡ (ss ++ (fs ++ (ks ++ cs))) ++ rest)
+      (select_of results sources filter keys cuts ≡ x) × (ts ≡ (ss ++ (fs ++ (ks ++ cs))) ++ rest)
 
-  from_ok : (items : List ItemTree) (ts : List Lexeme) (x : SelectTree) (rest : List Lexeme)
-      → from_at p items ts ≡ Some (x, rest) → TakesFrom items ts x rest
+  from_ok : (results : List ItemTree) (ts : List Lexeme) (x : SelectTree) (rest : List Lexeme)
+      → from_at p results ts ≡ Some (x, rest) → TakesFrom results ts x rest
   unfolding from_at
-  from_ok items ts x rest e =
+  from_ok results ts x rest e =
       let a = bind_ok (sources_at p ts) _ _ e in
       let b = bind_ok (optional_at mark.Where p a.0.1) _ _ a.2 in
       let c = bind_ok (keys_at p b.0.1) _ _ b.2 in
-      let d = bind_ok (cuts_at c.0.1) _ _ c.2 in
+      let d = bind_ok (limits_at c.0.1) _ _ c.2 in
       let sources = sources_ok ts a.0.0 a.0.1 a.1 in
       let filter = condition_ok mark.Where a.0.1 b.0.0 b.0.1 b.1 in
       let keys = keys_ok b.0.1 c.0.0 c.0.1 c.1 in
       let cuts = cuts_ok c.0.1 d.0.0 d.0.1 d.1 in
-      let same = given_ok (select_of items a.0.0 b.0.0 c.0.0 d.0.0) x d.0.1 rest d.2 in
+      let same = given_ok (select_of results a.0.0 b.0.0 c.0.0 d.0.0) x d.0.1 rest d.2 in
       let split : ts ≡ sources.0 ++ (filter.0 ++ (keys.0 ++ (cuts.0 ++ rest))) =
       sources.1 ∙ ap (λ q. sources.0 ++ q)
       (filter.1 ∙ ap (λ q. filter.0 ++ q)
@@ -609,34 +587,35 @@ module _ (p : Reader Tree) (sound : IsSound (Spells g.expr) p) where
   select_ok : (ts q : List Lexeme) (x : SelectTree) (rest : List Lexeme)
       → after mark.Select ts ≡ Some q → select_at p q ≡ Some (x, rest)
       → Takes IsSpelled ts (statement.Select x) rest
-  unfolding select_at items_at
+  unfolding select_at results_at
   select_ok ts q x rest next e =
-      let past = past_ok q (past_all q) refl in
-      let a = bind_ok (list_at (item_at p) (after mark.Comma) (item_at p) (past_all q)) _ _ e in
-      let items = listed_ok Result (item_at p) item_ok (past_all q) a.0.0 a.0.1 a.1 in
+      let passed = past_all_ok q in
+      let a = bind_ok (list_at (result_at p) (after mark.Comma) (result_at p) (past mark.All q))
+      _ _ e in
+      let results = listed_ok Result (result_at p) result_ok (past mark.All q) a.0.0 a.0.1 a.1 in
       elim (branch_ok (after mark.From a.0.1) _ _ _ a.2) [
         | inl w ↦ absurd (cc (w.1))
         | inr w ↦
             let f = from_ok a.0.0 w.0 x rest w.2 in
             let behind : List Lexeme = f.0 ++ (f.1 ++ (f.2 ++ f.3)) in
             let front : List Lexeme =
-            lexeme.Fixed mark.Select ∷ (past.0 ++ (items.0 ++ lexeme.Fixed mark.From ∷ behind))
+            lexeme.Fixed mark.Select ∷ (passed.0 ++ (results.0 ++ lexeme.Fixed mark.From ∷ behind))
             in
-            let split : q ≡ past.0 ++ (items.0 ++ lexeme.Fixed mark.From ∷ (behind ++ rest)) =
-            past.2 ∙ ap (λ z. past.0 ++ z)
-            (items.1 ∙ ap (λ z. items.0 ++ z)
+            let split : q ≡ passed.0 ++ (results.0 ++ lexeme.Fixed mark.From ∷ (behind ++ rest)) =
+            passed.2 ∙ ap (λ z. passed.0 ++ z)
+            (results.1 ∙ ap (λ z. results.0 ++ z)
             (after_ok mark.From a.0.1 w.0 w.1 ∙ ap (λ z. lexeme.Fixed mark.From ∷ z) f.13)) in
-            let again : past.0 ++ (items.0 ++ lexeme.Fixed mark.From ∷ (behind ++ rest))
-            ≡ (past.0 ++ (items.0 ++ lexeme.Fixed mark.From ∷ behind)) ++ rest =
-            ap (λ z. past.0 ++ z)
-            (sym (append_assoc items.0 (lexeme.Fixed mark.From ∷ behind) rest))
-            ∙ sym (append_assoc past.0 (items.0 ++ lexeme.Fixed mark.From ∷ behind) rest) in (
+            let again : passed.0 ++ (results.0 ++ lexeme.Fixed mark.From ∷ (behind ++ rest))
+            ≡ (passed.0 ++ (results.0 ++ lexeme.Fixed mark.From ∷ behind)) ++ rest =
+            ap (λ z. passed.0 ++ z)
+            (sym (append_assoc results.0 (lexeme.Fixed mark.From ∷ behind) rest))
+            ∙ sym (append_assoc passed.0 (results.0 ++ lexeme.Fixed mark.From ∷ behind) rest) in (
               front,
               after_ok mark.Select ts q next
                   ∙ ap (λ z. lexeme.Fixed mark.Select ∷ z) (split ∙ again),
               subst
                   (λ z. IsSpelled front (statement.Select z)) f.12
-                  (s.select past.1 items.2 f.8 f.9 f.10 f.11 refl),
+                  (s.select passed.1 results.2 f.8 f.9 f.10 f.11 refl),
             )
       ]
 
@@ -645,8 +624,8 @@ module _ (p : Reader Tree) (sound : IsSound (Spells g.expr) p) where
       → Takes IsSpelled ts (statement.Update x) rest
   unfolding update_at sets_at
   update_ok ts q x rest next e =
-      let a = bind_ok (source_at false q) _ _ e in
-      let source = table_ok false q a.0.0 a.0.1 a.1 in
+      let a = bind_ok (source_at q) _ _ e in
+      let source = table_ok q a.0.0 a.0.1 a.1 in
       elim (branch_ok (after mark.Set a.0.1) _ _ _ a.2) [
         | inl w ↦ absurd (cc (w.1))
         | inr w ↦
@@ -685,8 +664,8 @@ module _ (p : Reader Tree) (sound : IsSound (Spells g.expr) p) where
       elim (branch_ok (after mark.From q) _ _ _ e) [
         | inl w ↦ absurd (cc (w.1))
         | inr w ↦
-            let a = bind_ok (source_at false w.0) _ _ w.2 in
-            let source = table_ok false w.0 a.0.0 a.0.1 a.1 in
+            let a = bind_ok (source_at w.0) _ _ w.2 in
+            let source = table_ok w.0 a.0.0 a.0.1 a.1 in
             let c = bind_ok (optional_at mark.Where p a.0.1) _ _ a.2 in
             let filter = condition_ok mark.Where a.0.1 c.0.0 c.0.1 c.1 in
             let same = given_ok (delete_of a.0.0 c.0.0) x c.0.1 rest c.2 in

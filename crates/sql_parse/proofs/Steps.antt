@@ -1,13 +1,15 @@
 -- What an answer of a reader says of its steps.
-use Rattle.std.proofs.Common.{◌≡◌, ℕ, Bool, true, false, cond, ◌⊎◌, inl, inr, Option, None, Some}
-use Rattle.std.proofs.Common.{List, [], ◌∷◌, ◌++◌, refl, ap, ◌∙◌, subst}
+use Rattle.std.proofs.Common.{◌≡◌, ℕ, suc, zero, Bool, true, false, cond, ◌⊎◌, inl, inr, Option}
+use Rattle.std.proofs.Common.{None, Some, List, [], ◌∷◌, ◌++◌, length, refl, ap, sym, ◌∙◌, subst}
+use Rattle.std.proofs.Common.{append_assoc}
 use denote.Enum.Bare.{same_true, true_same}
 use Rattle.sql_read.specs.contracts.lexeme.Mark.{the_type}
 use Rattle.sql_read.specs.declared.lexeme.Direction.{Direction}
 use Rattle.sql_read.specs.declared.lexeme.Mark.{Mark}
 use Rattle.sql_read.specs.Lexemes.{Lexeme}
 use Rattle.sql_read.specs.Lexemes as lexeme
-use Rattle.sql_read.specs.Reading.{◌>>=◌, branch, after, same_mark, name_at, Reader}
+use Rattle.sql_read.specs.Reading.{◌>>=◌, branch, after, same_mark, name_at, Read, Reader, more_at}
+use Rattle.sql_read.specs.Reading.{list_at}
 
 pub bind_ok : {A B : Type 0} (r : Option A) (f : A → Option B) (y : B) → (r >>= f) ≡ Some y →
     (a : A) × (r ≡ Some a) × (f a ≡ Some y)
@@ -99,3 +101,76 @@ pub moved : {A : Type 0} (R : List Lexeme → A → Type 0) (ts q rest : List Le
     → Takes R q x rest →
     Takes R ts x rest
 moved R ts q rest x e t = (t.0, e ∙ t.1, t.2)
+
+-- a lexeme, and what is taken behind it
+pub behind : {A : Type 0} (R : List Lexeme → A → Type 0) (t : Lexeme) (ts q rest : List Lexeme)
+    (x : A) → ts ≡ t ∷ q → Takes (λ fs z. R (t ∷ fs) z) q x rest → Takes R ts x rest
+behind R t ts q rest x e k = (t ∷ k.0, e ∙ ap (λ r. t ∷ r) k.1, k.2)
+
+-- what is taken, answered as another value
+pub answered : {A B : Type 0} (R : List Lexeme → A → Type 0) (S : List Lexeme → B → Type 0)
+    (ts q rest : List Lexeme) (x : A) (made y : B) → ((fs : List Lexeme) → R fs x → S fs made)
+    → (made ≡ y) × (q ≡ rest) → Takes R ts x q → Takes S ts y rest
+answered R S ts q rest x made y f is t =
+    (t.0, t.1 ∙ ap (λ r. t.0 ++ r) is.1, subst (λ z. S t.0 z) is.0 (f t.0 t.2))
+
+-- what is taken in two parts, answered as one value
+pub both : {A B C : Type 0} (R : List Lexeme → A → Type 0) (S : List Lexeme → B → Type 0)
+    (T : List Lexeme → C → Type 0) (ts q s rest : List Lexeme) (x : A) (y : B) (made z : C)
+    → ((fs bs : List Lexeme) → R fs x → S bs y → T (fs ++ bs) made) → (made ≡ z) × (s ≡ rest)
+    → Takes R ts x q → Takes S q y s → Takes T ts z rest
+both R S T ts q s rest x y made z f is t k = (
+  t.0 ++ k.0,
+  t.1 ∙ ap (λ r. t.0 ++ r) (k.1 ∙ ap (λ r. k.0 ++ r) is.1) ∙ sym (append_assoc t.0 k.0 rest),
+  subst (λ v. T (t.0 ++ k.0) v) is.0 (f t.0 k.0 t.2 k.2),
+)
+
+-- A list with a mark between each two members: what reads a member soundly reads the list so.
+module _ {A : Type 0} (R : List Lexeme → A → Type 0) (L : List Lexeme → List A → Type 0) (m : Mark)
+    (last : (ts : List Lexeme) (x : A) → R ts x → L ts (x ∷ []))
+    (more : (fs bs : List Lexeme) (x : A) (xs : List A) → R fs x → L bs xs →
+    L (fs ++ lexeme.Fixed m ∷ bs) (x ∷ xs)) (p : Reader A) (sound : IsSound R p) where
+  none_more : (ts : List Lexeme) (x : A) (front : List Lexeme) (xs : List A) (rest : List Lexeme)
+      → R front x → ◌≡◌ {A = Read (List A)} (Some ([], ts)) (Some (xs, rest))
+      → Takes L (front ++ ts) (x ∷ xs) rest
+  none_more ts x front xs rest first e =
+      let is = given_ok [] xs ts rest e in
+      (front, ap (λ r. front ++ r) is.1, subst (λ zs. L front (x ∷ zs)) is.0 (last front x first))
+
+  more_ok : (n : ℕ) (ts : List Lexeme) (x : A) (front : List Lexeme) (xs : List A)
+      (rest : List Lexeme) → R front x → more_at (after m) p n ts ≡ Some (xs, rest)
+      → Takes L (front ++ ts) (x ∷ xs) rest
+  unfolding more_at
+  more_ok zero ts x front xs rest first e = none_more ts x front xs rest first e
+  more_ok (suc n) ts x front xs rest first e =
+      elim (branch_ok (after m ts) _ _ _ e) [
+        | inl w ↦ none_more ts x front xs rest first w.1
+        | inr w ↦
+            let b = bind_ok (p w.0) _ _ w.2 in
+            let y = b.0 in
+            let d = bind_ok (more_at (after m) p n y.1) _ _ b.2 in
+            let zs = d.0 in
+            let t = sound w.0 y.0 y.1 b.1 in
+            let ih = more_ok n y.1 y.0 t.0 zs.0 zs.1 t.2 d.1 in
+            let is : ts ≡ lexeme.Fixed m ∷ (ih.0 ++ zs.1) =
+            after_ok m ts w.0 w.1 ∙ ap (λ r. lexeme.Fixed m ∷ r) (t.1 ∙ ih.1) in
+            let end = given_ok (y.0 ∷ zs.0) xs zs.1 rest d.2 in (
+              front ++ lexeme.Fixed m ∷ ih.0,
+              ap (λ r. front ++ r) is ∙ sym (append_assoc front (lexeme.Fixed m ∷ ih.0) zs.1)
+                  ∙ ap (λ r. (front ++ lexeme.Fixed m ∷ ih.0) ++ r) end.1,
+              subst (λ ys. L (front ++ lexeme.Fixed m ∷ ih.0) (x ∷ ys)) end.0
+                  (more front ih.0 x (y.0 ∷ zs.0) first ih.2),
+            )
+      ]
+
+  pub list_ok : IsSound L (list_at p (after m) p)
+  unfolding list_at
+  list_ok ts xs rest e =
+      let b = bind_ok (p ts) _ _ e in
+      let y = b.0 in
+      let d = bind_ok (more_at (after m) p (length y.1) y.1) _ _ b.2 in
+      let zs = d.0 in
+      let t = sound ts y.0 y.1 b.1 in
+      let all = more_ok (length y.1) y.1 y.0 t.0 zs.0 zs.1 t.2 d.1 in
+      let end = given_ok (y.0 ∷ zs.0) xs zs.1 rest d.2 in
+      (all.0, t.1 ∙ all.1 ∙ ap (λ r. all.0 ++ r) end.1, subst (λ ys. L all.0 ys) end.0 all.2)

@@ -3,8 +3,8 @@ use Rattle.std.proofs.Common.{◌≡◌, Some, List, [], ◌∷◌, ◌++◌, le
 use Rattle.std.proofs.Common.{arith}
 use Rattle.std.proofs.lemmas.List.{append-nil}
 use Rattle.sql_tree.specs.Statements.{StatementTree}
-use Rattle.sql_read.specs.declared.lexeme.ReadFault.{ReadFault}
-use Rattle.sql_read.specs.declared.lexeme.ReadFault.TheVariants as fault
+use Rattle.sql_read.specs.declared.lexeme.DescentFault.{DescentFault}
+use Rattle.sql_read.specs.declared.lexeme.DescentFault.TheVariants as fault
 use Rattle.sql_read.specs.Lexemes.{Lexeme}
 use Rattle.sql_read.specs.Reading.{Fails}
 use Rattle.sql_read.specs.Expressions.{below, expr_at}
@@ -46,7 +46,7 @@ one_tree ts x y s t =
     let b = spelled_is_read ts y t in
     cc
 
-pub not_spelled : (ts : List Lexeme) (e : ReadFault) → Fails e (whole_at ts) → (x : StatementTree)
-    → IsSpelled ts x → e ≡ fault.Memory
+pub not_spelled : (ts : List Lexeme) (e : DescentFault) → Fails e (whole_at ts)
+    → (x : StatementTree) → IsSpelled ts x → e ≡ fault.Memory
 not_spelled ts fault.Syntax none x s = let some = spelled_is_read ts x s in cc
 not_spelled ts fault.Memory none x s = refl

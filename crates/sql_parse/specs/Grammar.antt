@@ -75,6 +75,9 @@ mutual
         Spells operand fs x → Spells operand bs y → Spells operand cs z →
         ts ≡ fs ++ (perhaps_not neg mark.Between ++ (bs ++ lexeme.Fixed mark.And ∷ cs)) →
         Spells test ts (tree.Between neg x y z)
+    like : {ts fs bs : List Lexeme} {x y : Tree} (neg : Bool) → Spells operand fs x →
+        Spells operand bs y →
+        ts ≡ fs ++ (perhaps_not neg mark.Like ++ bs) → Spells test ts (tree.Like neg x y)
     in_none : {ts fs : List Lexeme} {x : Tree} (neg : Bool) → Spells operand fs x →
         ts ≡ fs ++ (perhaps_not neg mark.In
         ++ lexeme.Fixed mark.Open ∷ lexeme.Fixed mark.Close ∷ []) →

@@ -12,7 +12,9 @@ use Rattle.sql_read.specs.declared.lexeme.Mark.TheVariants as mark
 use Rattle.sql_read.specs.Lexemes.{Lexeme}
 use Rattle.sql_read.specs.Lexemes as lexeme
 use Rattle.sql_read.specs.Leaves.{signed}
-use Rattle.sql_read.specs.Parts.{Cuts, source_named, key_by, set_to}
+use Rattle.sql_read.specs.Limits.{Cuts}
+use Rattle.sql_read.specs.Parts.{source_named, on_condition, cross_joined, left_joined}
+use Rattle.sql_read.specs.Parts.{key_by, set_to}
 use Rattle.sql_read.specs.Statements.{select_of, update_of, delete_of}
 use Rattle.sql_parse.specs.Grammar.{Spells}
 use Rattle.sql_parse.specs.Grammar as level
@@ -51,30 +53,26 @@ pub data Result : List Lexeme → ItemTree → Type 0 where
       Alias true bs a →
       ts ≡ fs ++ bs → Result ts (statement.Value x a)
 
-pub data Table : Bool → List Lexeme → SourceTree → Type 0 where
-  table : {cross : Bool} {ts : List Lexeme} {a : Option (List ℕ)} (t : List ℕ)
-      (d : Option Direction) →
-      Alias false ts a → Table cross (lexeme.Name t d ∷ ts) (source_named t a cross None)
-
--- the source with its ON condition
-abbrev pub on_condition : SourceTree → Option Tree → SourceTree
-on_condition s on = source_named s.table s.alias s.cross on
+pub data Table : List Lexeme → SourceTree → Type 0 where
+  table : {ts : List Lexeme} {a : Option (List ℕ)} (t : List ℕ) (d : Option Direction) →
+      Alias false ts a → Table (lexeme.Name t d ∷ ts) (source_named t a)
 
 -- JOIN, a source and its condition
-pub data Joined : Bool → List Lexeme → SourceTree → Type 0 where
-  joined : {cross : Bool} {ts fs bs : List Lexeme} {s : SourceTree} {on : Option Tree} →
-      Table cross fs s →
+pub data Joined : List Lexeme → SourceTree → Type 0 where
+  joined : {ts fs bs : List Lexeme} {s : SourceTree} {on : Option Tree} → Table fs s →
       Condition mark.On bs on → ts ≡ lexeme.Fixed mark.Join ∷ (fs ++ bs) →
-      Joined cross ts (on_condition s on)
+      Joined ts (on_condition s on)
 
 pub data Join : List Lexeme → SourceTree → Type 0 where
-  comma : {ts : List Lexeme} {s : SourceTree} → Table false ts s →
-      Join (lexeme.Fixed mark.Comma ∷ ts) s
-  plain : {ts : List Lexeme} {s : SourceTree} → Joined false ts s → Join ts s
-  inner : {ts : List Lexeme} {s : SourceTree} → Joined false ts s →
-      Join (lexeme.Fixed mark.Inner ∷ ts) s
-  cross : {ts : List Lexeme} {s : SourceTree} → Joined true ts s →
-      Join (lexeme.Fixed mark.Cross ∷ ts) s
+  comma : {ts : List Lexeme} {s : SourceTree} → Table ts s → Join (lexeme.Fixed mark.Comma ∷ ts) s
+  plain : {ts : List Lexeme} {s : SourceTree} → Joined ts s → Join ts s
+  inner : {ts : List Lexeme} {s : SourceTree} → Joined ts s → Join (lexeme.Fixed mark.Inner ∷ ts) s
+  cross : {ts : List Lexeme} {s : SourceTree} → Joined ts s →
+      Join (lexeme.Fixed mark.Cross ∷ ts) (cross_joined s)
+  left : {ts : List Lexeme} {s : SourceTree} → Joined ts s →
+      Join (lexeme.Fixed mark.Left ∷ ts) (left_joined s)
+  left_outer : {ts : List Lexeme} {s : SourceTree} → Joined ts s →
+      Join (lexeme.Fixed mark.Left ∷ lexeme.Fixed mark.Outer ∷ ts) (left_joined s)
 
 pub data Joins : List Lexeme → List SourceTree → Type 0 where
   none : Joins [] []
@@ -83,7 +81,7 @@ pub data Joins : List Lexeme → List SourceTree → Type 0 where
       ts ≡ fs ++ bs → Joins ts (s ∷ ss)
 
 pub data Sources : List Lexeme → List SourceTree → Type 0 where
-  sources : {ts fs bs : List Lexeme} {s : SourceTree} {ss : List SourceTree} → Table false fs s →
+  sources : {ts fs bs : List Lexeme} {s : SourceTree} {ss : List SourceTree} → Table fs s →
       Joins bs ss →
       ts ≡ fs ++ bs → Sources ts (s ∷ ss)
 
@@ -132,19 +130,19 @@ pub data PerhapsAll : List Lexeme → Type 0 where
 
 -- the lexemes spell the statement
 pub data IsSpelled : List Lexeme → StatementTree → Type 0 where
-  select : {ts qs is ss fs ks cs : List Lexeme} {items : List ItemTree} {sources : List SourceTree}
-      {filter : Option Tree} {keys : List KeyTree} {cuts : Cuts} →
-      PerhapsAll qs → Listed Result is items → Sources ss sources → Condition mark.Where fs filter →
-      SortKeys ks keys → Limits cs cuts →
+  select : {ts qs is ss fs ks cs : List Lexeme} {results : List ItemTree}
+      {sources : List SourceTree} {filter : Option Tree} {keys : List KeyTree} {cuts : Cuts} →
+      PerhapsAll qs → Listed Result is results → Sources ss sources →
+      Condition mark.Where fs filter → SortKeys ks keys → Limits cs cuts →
       ts ≡ lexeme.Fixed mark.Select ∷ (qs
       ++ (is ++ lexeme.Fixed mark.From ∷ (ss ++ (fs ++ (ks ++ cs))))) →
-      IsSpelled ts (statement.Select (select_of items sources filter keys cuts))
+      IsSpelled ts (statement.Select (select_of results sources filter keys cuts))
   update : {ts ss us fs : List Lexeme} {source : SourceTree} {sets : List SetTree}
       {filter : Option Tree} →
-      Table false ss source → Listed Setting us sets → Condition mark.Where fs filter →
+      Table ss source → Listed Setting us sets → Condition mark.Where fs filter →
       ts ≡ lexeme.Fixed mark.Update ∷ (ss ++ lexeme.Fixed mark.Set ∷ (us ++ fs)) →
       IsSpelled ts (statement.Update (update_of source sets filter))
   delete : {ts ss fs : List Lexeme} {source : SourceTree} {filter : Option Tree} →
-      Table false ss source → Condition mark.Where fs filter →
+      Table ss source → Condition mark.Where fs filter →
       ts ≡ lexeme.Fixed mark.Delete ∷ lexeme.Fixed mark.From ∷ (ss ++ fs) →
       IsSpelled ts (statement.Delete (delete_of source filter))

@@ -3,12 +3,9 @@
 
 mod laws;
 mod numbers;
-mod parameters;
 mod refusals;
 mod spelled;
-mod token_lexemes;
 
 pub use laws::{at_most_one_tree, spelled_where_read};
 pub use refusals::{ParseFault, parse};
 pub use spelled::parse_lexemes;
-pub use token_lexemes::lexemes;

@@ -1,7 +1,7 @@
 //! Whether a number token is outside of what is read.
 ghost use Rattle.std.specs.Prelude.{◌≡◌, false};
 ghost use Rattle.sql_tokens.specs.NumberValues.{number_of};
-ghost use Rattle.sql_parse.specs.Refusals.{has_value, is_outside, is_minus, outside_from};
+ghost use Rattle.sql_parse.specs.Refusals.{has_value, is_outside, is_minus, number_outside_from};
 
 use sql_tokens::{Symbol, Terminal, Token, signed_number, terminal_at, token_number, token_text};
 
@@ -36,7 +36,7 @@ fn is_minus(terminal: Terminal) -> bool
 
 /// Whether a number token stands outside of what is read. 2^63 is within directly behind `-`.
 pub(crate) fn has_number_outside(text: &[u8], tokens: &[Token]) -> bool
-    ensures { result ≡ outside_from text.now false tokens.now }
+    ensures { result ≡ number_outside_from text.now false tokens.now }
 {
     let mut negative = false;
     for token in tokens {

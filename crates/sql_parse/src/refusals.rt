@@ -2,16 +2,16 @@
 ghost use Rattle.std.specs.Prelude.{◌≡◌, ◌<◌, ◌^◌, length, None, Some, IfOk, IfErr, MatchResult};
 ghost use Rattle.std.specs.Prelude.{◌⊎◌};
 ghost use Rattle.sql_tree.specs.Statements.{StatementTree, statement_tree};
-ghost use Rattle.sql_parse.specs.Refusals.{is_bad_kind, has_bad, first_refusal};
+ghost use Rattle.sql_parse.specs.Refusals.{is_bad, has_bad_token, first_refusal};
 ghost use Rattle.sql_parse.specs.Statements.{IsSpelled};
-ghost use Rattle.sql_parse.specs.TokenLexemes.{lexemes_of};
+ghost use Rattle.sql_lexemes.specs.TokenLexemes.{lexemes_of};
 
 use crate::numbers::has_number_outside;
 use crate::spelled::parse_lexemes;
-use crate::token_lexemes::lexemes;
 use bumpalo::Bump;
 use sql_lex::{Foreign, foreign, too_deep};
-use sql_read::ReadFault;
+use sql_lexemes::lexemes;
+use sql_read::DescentFault;
 use sql_tokens::{Token, TokenKind};
 use sql_tree::Stmt;
 use sql_value::Memory;
@@ -45,9 +45,9 @@ impl From<Memory> for ParseFault {
     }
 }
 
-#[tactic(auto, unfolding(crate::specs::Refusals::is_bad_kind))]
+#[tactic(auto, unfolding(crate::specs::Refusals::is_bad))]
 fn is_bad(kind: TokenKind) -> bool
-    ensures { result ≡ is_bad_kind kind }
+    ensures { result ≡ is_bad kind }
 {
     match kind {
         TokenKind::Bad => true,
@@ -62,7 +62,7 @@ fn is_bad(kind: TokenKind) -> bool
 }
 
 fn has_bad_token(tokens: &[Token]) -> bool
-    ensures { result ≡ has_bad tokens.now }
+    ensures { result ≡ has_bad_token tokens.now }
 {
     for token in tokens {
         if is_bad(token.kind) {
@@ -125,7 +125,7 @@ pub fn parse<'a>(
     let list = lexemes(alloc, arena, text, tokens)?;
     match parse_lexemes(alloc, arena, list) {
         Ok(statement) => Ok(statement),
-        Err(ReadFault::Syntax) => Err(ParseFault::Syntax),
-        Err(ReadFault::Memory) => Err(ParseFault::Memory),
+        Err(DescentFault::Syntax) => Err(ParseFault::Syntax),
+        Err(DescentFault::Memory) => Err(ParseFault::Memory),
     }
 }

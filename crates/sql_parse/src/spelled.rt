@@ -5,7 +5,7 @@ ghost use Rattle.sql_read.specs.Lexemes.{seen};
 ghost use Rattle.sql_parse.specs.Statements.{IsSpelled};
 
 use bumpalo::Bump;
-use sql_read::{Lexeme, ReadFault, read_statement};
+use sql_read::{DescentFault, Lexeme, read_statement};
 use sql_tree::Stmt;
 use std::alloc::Global;
 
@@ -15,12 +15,12 @@ pub fn parse_lexemes<'a>(
     alloc: Global,
     arena: &'a Bump,
     lexemes: &'a [Lexeme<'a>],
-) -> Result<Stmt<'a>, ReadFault>
+) -> Result<Stmt<'a>, DescentFault>
     // What is read is spelled so.
     ensures found { IfOk result (λ s. IsSpelled (seen lexemes.now) (statement_tree s)) }
     // What is spelled is read, unless memory runs out.
     ensures only { (t : StatementTree) → IsSpelled (seen lexemes.now) t →
-        MatchResult result (λ s. statement_tree s ≡ t) (λ e. e ≡ ReadFault.Memory) }
+        MatchResult result (λ s. statement_tree s ≡ t) (λ e. e ≡ DescentFault.Memory) }
 {
     match read_statement(alloc, arena, lexemes) {
         Ok(statement) => Ok(statement),

@@ -2,8 +2,8 @@
 use Rattle.std.proofs.Common.{◌≡◌, ℕ, suc, zero, ◌+◌, ◌-◌, ◌<◌, ◌≤◌, Option, None, Some, List, []}
 use Rattle.std.proofs.Common.{◌∷◌, ◌++◌, length, refl, ap, sym, ◌∙◌, append_assoc, arith}
 use Rattle.std.proofs.lemmas.List.{append-nil}
-use Rattle.sql_read.specs.declared.lexeme.ReadFault.{ReadFault}
-use Rattle.sql_read.specs.declared.lexeme.ReadFault.TheVariants as fault
+use Rattle.sql_read.specs.declared.lexeme.DescentFault.{DescentFault}
+use Rattle.sql_read.specs.declared.lexeme.DescentFault.TheVariants as fault
 use Rattle.sql_read.specs.Lexemes.{Lexeme}
 use Rattle.sql_read.specs.Reading.{◌>>=◌, Read, Reader, Fails, with_front, more_at, list_at}
 
@@ -38,7 +38,7 @@ module _ {A : Type 0} (first : Reader A) (start : List Lexeme → Option (List L
         let z : most - 0 ≡ length rest = omega arith in
         rw (is, read, z) refl
 
-    pub begins_not : (ts : List Lexeme) (e : ReadFault) → Fails e (first ts)
+    pub begins_not : (ts : List Lexeme) (e : DescentFault) → Fails e (first ts)
         → Fails e (list_at first start p ts)
     unfolding list_at
     begins_not ts fault.Syntax read = rw read refl
@@ -57,7 +57,7 @@ module _ {A : Type 0} (first : Reader A) (start : List Lexeme → Option (List L
           ∙ ap (λ k. with_front front (more_at start p k rest)) (sym (left_is i n h))
           ∙ kept)
 
-      pub fails : (behind : List Lexeme) (e : ReadFault) → i < n → start rest ≡ Some behind →
+      pub fails : (behind : List Lexeme) (e : DescentFault) → i < n → start rest ≡ Some behind →
           Fails e (p behind) → Fails e whole
       fails behind fault.Syntax h next read =
           let none : more_at start p (suc (n - (i + 1))) rest ≡ None =

@@ -9,8 +9,10 @@ use Rattle.sql_read.specs.declared.lexeme.Mark.{Mark}
 use Rattle.sql_read.specs.declared.lexeme.Mark.TheVariants as mark
 use Rattle.sql_read.specs.declared.follow.Follow.{Follow}
 use Rattle.sql_read.specs.declared.follow.Follow.TheVariants as follow
-use Rattle.sql_read.specs.declared.follow.Joint.{Joint}
-use Rattle.sql_read.specs.declared.follow.Joint.TheVariants as joint
+use Rattle.sql_read.specs.declared.levels.Joint.{Joint}
+use Rattle.sql_read.specs.declared.levels.Joint.TheVariants as joint
+use Rattle.sql_read.specs.declared.levels.Nested.{Nested}
+use Rattle.sql_read.specs.declared.levels.Nested.TheVariants as nested
 use Rattle.sql_read.specs.Reading.{◌>>=◌, branch, Reader, after, list_at}
 use Rattle.sql_read.specs.Leaves.{leaf_at, number_at, collated_at}
 
@@ -49,11 +51,13 @@ null_test_at ts =
     (λ r. Some (true, r)))
     (λ r. Some (false, r))
 
--- BETWEEN or IN
-unfoldable pub range_at : Bool → Reader Follow
-range_at negated ts =
+-- BETWEEN, IN or LIKE, which NOT may stand before
+unfoldable pub word_test_at : Bool → Reader Follow
+word_test_at negated ts =
     branch (after mark.Between ts)
+    (branch (after mark.Like ts)
     (branch (after mark.In ts) None (λ r. Some (follow.OneOf negated, r)))
+    (λ r. Some (follow.Like negated, r)))
     (λ r. Some (follow.Between negated, r))
 
 -- which test begins behind its first operand, if one does
@@ -61,7 +65,7 @@ unfoldable pub follow_at : Reader Follow
 follow_at ts =
     branch (op_at ts)
     (branch (null_test_at ts)
-    (branch (after mark.Not ts) (range_at false ts) (λ r. range_at true r))
+    (branch (after mark.Not ts) (word_test_at false ts) (λ r. word_test_at true r))
     (λ n. Some (follow.Null n.0, n.1)))
     (λ o. Some (follow.Cmp o.0, o.1))
 
@@ -76,6 +80,12 @@ pub record Below : Type 0 where
   pub expr : Reader Tree
   pub not : Reader Tree
   pub operand : Reader Tree
+
+-- the reader of what stands a level deeper
+abbrev pub nested_at : Below → Nested → Reader Tree
+nested_at b nested.Expr = b.expr
+nested_at b nested.Not = b.not
+nested_at b nested.Operand = b.operand
 
 -- what stands up to the closing parenthesis
 unfoldable pub enclosed_at : {A : Type 0} → Reader A → Reader A
@@ -105,6 +115,11 @@ between_at b negated x ts =
     operand_at b ts >>= λ low. branch (after mark.And low.1) None (λ r. operand_at b r >>= λ high.
     Some (tree.Between negated x low.0 high.0, high.1))
 
+-- the pattern of LIKE
+unfoldable pub like_at : Below → Bool → Tree → Reader Tree
+like_at b negated left ts =
+    operand_at b ts >>= λ pattern. Some (tree.Like negated left pattern.0, pattern.1)
+
 -- the entries of IN, none or more, up to the closing parenthesis
 unfoldable pub entries_at : Below → Reader (List Tree)
 entries_at b ts =
@@ -122,6 +137,7 @@ tested_at b left (follow.Cmp o) ts = right_at b o left ts
 tested_at b left (follow.Null negated) ts = Some (tree.IsNull negated left, ts)
 tested_at b left (follow.Between negated) ts = between_at b negated left ts
 tested_at b left (follow.OneOf negated) ts = one_of_at b negated left ts
+tested_at b left (follow.Like negated) ts = like_at b negated left ts
 
 unfoldable pub test_at : Below → Reader Tree
 test_at b ts =

@@ -3,16 +3,13 @@ use Rattle.std.specs.Prelude.{ℕ, Bool, true, false, Option, None, Some, List, 
 use Rattle.std.specs.Prelude.{if◌then◌else◌}
 use Rattle.sql_tree.specs.Trees.{Tree}
 use Rattle.sql_tree.specs.Statements.{SourceTree, ItemTree, KeyTree, SetTree}
-use Rattle.sql_tree.specs.Statements as item
-use Rattle.sql_tree.specs.declared.statement.Cut.{Cut}
-use Rattle.sql_tree.specs.declared.statement.Cut.TheVariants as cut
+use Rattle.sql_tree.specs.Statements as statement
 use Rattle.sql_read.specs.declared.lexeme.Mark.{Mark}
 use Rattle.sql_read.specs.declared.lexeme.Mark.TheVariants as mark
 use Rattle.sql_read.specs.declared.lexeme.Direction.TheVariants as direction
 use Rattle.sql_read.specs.Lexemes.{Lexeme}
 use Rattle.sql_read.specs.Lexemes as lexeme
-use Rattle.sql_read.specs.Reading.{◌>>=◌, branch, Reader, after, name_at, list_at}
-use Rattle.sql_read.specs.Leaves.{signed}
+use Rattle.sql_read.specs.Reading.{◌>>=◌, branch, Reader, after, past, name_at, list_at}
 
 -- what stands behind a mark, or nothing where the mark doesn't stand
 unfoldable pub optional_at : {A : Type 0} → Mark → Reader A → Reader (Option A)
@@ -44,46 +41,63 @@ table_star_at ts =
     (λ r. branch (after mark.Star r) None (λ q.
     Some (table.0, q)))
 
-unfoldable pub value_item_at : Reader Tree → Reader ItemTree
-value_item_at e ts = e ts >>= λ x. alias_at true x.1 >>= λ a. Some (item.Value x.0 a.0, a.1)
+unfoldable pub value_result_at : Reader Tree → Reader ItemTree
+value_result_at e ts = e ts >>= λ x. alias_at true x.1 >>= λ a. Some (statement.Value x.0 a.0, a.1)
 
-unfoldable pub item_at : Reader Tree → Reader ItemTree
-item_at e ts =
+unfoldable pub result_at : Reader Tree → Reader ItemTree
+result_at e ts =
     branch (after mark.Star ts)
-    (branch (table_star_at ts) (value_item_at e ts)
-    (λ table. Some (item.TableStar table.0, table.1)))
-    (λ r. Some (item.Star, r))
+    (branch (table_star_at ts) (value_result_at e ts)
+    (λ table. Some (statement.TableStar table.0, table.1)))
+    (λ r. Some (statement.Star, r))
 
-abbrev pub source_named : List ℕ → Option (List ℕ) → Bool → Option Tree → SourceTree
-source_named table alias cross on = record { table = table; alias = alias; cross = cross; on = on }
+-- a source that nothing joins and that has no condition
+abbrev pub source_named : List ℕ → Option (List ℕ) → SourceTree
+source_named table alias =
+    record { table = table; alias = alias; cross = false; left = false; on = None }
 
-unfoldable pub source_at : Bool → Reader SourceTree
-source_at cross ts =
+-- the source behind CROSS JOIN
+abbrev pub cross_joined : SourceTree → SourceTree
+cross_joined s = record s { cross = true }
+
+-- the source behind LEFT JOIN
+abbrev pub left_joined : SourceTree → SourceTree
+left_joined s = record s { left = true }
+
+-- the source with its ON condition
+abbrev pub on_condition : SourceTree → Option Tree → SourceTree
+on_condition s on = record s { on = on }
+
+unfoldable pub source_at : Reader SourceTree
+source_at ts =
     name_at ts >>= λ table. alias_at false table.1 >>= λ alias.
-    Some (source_named table.0 alias.0 cross None, alias.1)
+    Some (source_named table.0 alias.0, alias.1)
 
 -- a source with its ON condition, behind JOIN
-unfoldable pub joined_source_at : Reader Tree → Bool → Reader SourceTree
-joined_source_at e cross ts =
-    branch (after mark.Join ts) None (λ r. source_at cross r >>= λ s.
-    optional_at mark.On e s.1 >>= λ on.
-    Some (source_named s.0.table s.0.alias s.0.cross on.0, on.1))
+unfoldable pub joined_source_at : Reader Tree → Reader SourceTree
+joined_source_at e ts =
+    branch (after mark.Join ts) None (λ r. source_at r >>= λ s.
+    optional_at mark.On e s.1 >>= λ on. Some (on_condition s.0 on.0, on.1))
 
--- a further source: behind a comma, CROSS JOIN, INNER JOIN or JOIN
+-- a further source: behind a comma, CROSS JOIN, LEFT JOIN, LEFT OUTER JOIN, INNER JOIN or JOIN
 unfoldable pub join_at : Reader Tree → Reader SourceTree
 join_at e ts =
     branch (after mark.Comma ts)
     (branch (after mark.Cross ts)
-    (branch (after mark.Inner ts) (joined_source_at e false ts) (λ r. joined_source_at e false r))
-    (λ r. joined_source_at e true r))
-    (λ r. source_at false r)
+    (branch (after mark.Left ts)
+    (joined_source_at e (past mark.Inner ts))
+    (λ r. joined_source_at e (past mark.Outer r) >>= λ s. Some (left_joined s.0, s.1)))
+    (λ r. joined_source_at e r >>= λ s. Some (cross_joined s.0, s.1)))
+    (λ r. source_at r)
 
 -- the lexemes, where a further source begins with them
 unfoldable pub join_begins : List Lexeme → Option (List Lexeme)
 join_begins ts =
     branch (after mark.Comma ts)
     (branch (after mark.Cross ts)
+    (branch (after mark.Left ts)
     (branch (after mark.Inner ts) (branch (after mark.Join ts) None (λ r. Some ts)) (λ r. Some ts))
+    (λ r. Some ts))
     (λ r. Some ts))
     (λ r. Some ts)
 
@@ -112,54 +126,6 @@ unfoldable pub keys_at : Reader Tree → Reader (List KeyTree)
 keys_at e ts =
     branch (after mark.Order ts) (Some ([], ts)) (λ r. branch (after mark.By r) None (λ q.
     list_at (key_at e) (after mark.Comma) (key_at e) q))
-
--- a number of rows, without its sign
-unfoldable pub count_at : Bool → Reader Cut
-count_at negative [] = None
-count_at negative (lexeme.Int n ∷ rest) = signed negative n >>= λ z. Some (cut.Count z, rest)
-count_at negative (lexeme.Fixed m ∷ rest) = None
-count_at negative (lexeme.Name bytes direction ∷ rest) = None
-count_at negative (lexeme.Text bytes ∷ rest) = None
-count_at negative (lexeme.Blob bytes ∷ rest) = None
-count_at negative (lexeme.Dec units ∷ rest) = None
-count_at negative (lexeme.Param number ∷ rest) = None
-count_at negative (lexeme.Other ∷ rest) = None
-
--- a parameter
-unfoldable pub param_at : Reader ℕ
-param_at [] = None
-param_at (lexeme.Param number ∷ rest) = Some (number, rest)
-param_at (lexeme.Fixed m ∷ rest) = None
-param_at (lexeme.Name bytes direction ∷ rest) = None
-param_at (lexeme.Text bytes ∷ rest) = None
-param_at (lexeme.Blob bytes ∷ rest) = None
-param_at (lexeme.Int n ∷ rest) = None
-param_at (lexeme.Dec units ∷ rest) = None
-param_at (lexeme.Other ∷ rest) = None
-
-unfoldable pub cut_at : Reader Cut
-cut_at ts =
-    branch (after mark.Minus ts)
-    (branch (param_at ts) (count_at false ts) (λ p. Some (cut.Param p.0, p.1)))
-    (λ r. count_at true r)
-
--- the limit and the offset
-abbrev pub Cuts : Type 0
-Cuts = Option Cut × Option Cut
-
--- what follows the first number behind LIMIT: in `LIMIT x, y` that is the offset
-unfoldable pub second_cut_at : Cut → Reader Cuts
-second_cut_at first ts =
-    branch (after mark.Offset ts)
-    (branch (after mark.Comma ts)
-    (Some ((Some first, None), ts))
-    (λ r. cut_at r >>= λ second. Some ((Some second.0, Some first), second.1)))
-    (λ r. cut_at r >>= λ second. Some ((Some first, Some second.0), second.1))
-
-unfoldable pub cuts_at : Reader Cuts
-cuts_at ts =
-    branch (after mark.Limit ts) (Some ((None, None), ts))
-    (λ r. cut_at r >>= λ first. second_cut_at first.0 first.1)
 
 abbrev pub set_to : List ℕ → Tree → SetTree
 set_to column x = record { column = column; value = x }

@@ -4,8 +4,8 @@ use Rattle.std.specs.Prelude.{[], ◌∷◌, ◌++◌, length, if◌then◌else�
 use denote.Enum.Bare.{sameb}
 use Rattle.sql_read.specs.contracts.lexeme.Mark.{the_type}
 use Rattle.sql_read.specs.declared.lexeme.Mark.{Mark}
-use Rattle.sql_read.specs.declared.lexeme.ReadFault.{ReadFault}
-use Rattle.sql_read.specs.declared.lexeme.ReadFault.TheVariants as fault
+use Rattle.sql_read.specs.declared.lexeme.DescentFault.{DescentFault}
+use Rattle.sql_read.specs.declared.lexeme.DescentFault.TheVariants as fault
 use Rattle.sql_read.specs.Lexemes.{Lexeme}
 use Rattle.sql_read.specs.Lexemes as lexeme
 
@@ -26,11 +26,11 @@ abbrev pub Reader : Type 0 → Type 0
 Reader A = List Lexeme → Read A
 
 -- What a function returned, seen by view, is what reading gives, unless memory ran out.
-abbrev pub Fails : {Y : Type 0} → ReadFault → Option Y → Type 0
+abbrev pub Fails : {Y : Type 0} → DescentFault → Option Y → Type 0
 Fails fault.Syntax read = read ≡ None
 Fails fault.Memory read = Unit {0}
 
-abbrev pub Gives : {X Y : Type 0} → (X → Y) → Result X ReadFault → Option Y → Type 0
+abbrev pub Gives : {X Y : Type 0} → (X → Y) → Result X DescentFault → Option Y → Type 0
 Gives view (Ok x) read = read ≡ Some (view x)
 Gives view (Err e) read = Fails e read
 
@@ -48,6 +48,10 @@ after m (lexeme.Int n ∷ rest) = None
 after m (lexeme.Dec units ∷ rest) = None
 after m (lexeme.Param number ∷ rest) = None
 after m (lexeme.Other ∷ rest) = None
+
+-- the lexemes behind this mark, or all of them where they don't begin with it
+unfoldable pub past : Mark → List Lexeme → List Lexeme
+past m ts = branch (after m ts) ts (λ r. r)
 
 -- a name at the front
 unfoldable pub name_at : Reader (List ℕ)

@@ -1,30 +1,31 @@
 -- Whole statements.
-use Rattle.std.specs.Prelude.{false, Option, None, Some, List, [], ◌∷◌, length}
+use Rattle.std.specs.Prelude.{Option, None, Some, List, [], ◌∷◌, length}
 use Rattle.sql_tree.specs.Trees.{Tree}
 use Rattle.sql_tree.specs.Statements.{SourceTree, ItemTree, KeyTree, SetTree, SelectTree}
 use Rattle.sql_tree.specs.Statements.{UpdateTree, DeleteTree, StatementTree}
 use Rattle.sql_tree.specs.Statements as statement
 use Rattle.sql_read.specs.declared.lexeme.Mark.TheVariants as mark
 use Rattle.sql_read.specs.Lexemes.{Lexeme}
-use Rattle.sql_read.specs.Reading.{◌>>=◌, branch, Reader, after, list_at}
+use Rattle.sql_read.specs.Reading.{◌>>=◌, branch, Reader, after, past, list_at}
 use Rattle.sql_read.specs.Expressions.{below, expr_at}
-use Rattle.sql_read.specs.Parts.{Cuts, optional_at, item_at, source_at, join_at, join_begins}
-use Rattle.sql_read.specs.Parts.{keys_at, cuts_at, set_at}
+use Rattle.sql_read.specs.Limits.{Cuts, limits_at}
+use Rattle.sql_read.specs.Parts.{optional_at, result_at, source_at, join_at, join_begins}
+use Rattle.sql_read.specs.Parts.{keys_at, set_at}
 
-unfoldable pub items_at : Reader Tree → Reader (List ItemTree)
-items_at e = list_at (item_at e) (after mark.Comma) (item_at e)
+unfoldable pub results_at : Reader Tree → Reader (List ItemTree)
+results_at e = list_at (result_at e) (after mark.Comma) (result_at e)
 
 unfoldable pub sources_at : Reader Tree → Reader (List SourceTree)
-sources_at e = list_at (source_at false) join_begins (join_at e)
+sources_at e = list_at source_at join_begins (join_at e)
 
 unfoldable pub sets_at : Reader Tree → Reader (List SetTree)
 sets_at e = list_at (set_at e) (after mark.Comma) (set_at e)
 
 abbrev pub select_of : List ItemTree → List SourceTree → Option Tree → List KeyTree → Cuts
     → SelectTree
-select_of items sources filter keys cuts =
+select_of results sources filter keys cuts =
     record {
-      items = items;
+      items = results;
       sources = sources;
       filter = filter;
       keys = keys;
@@ -34,20 +35,16 @@ select_of items sources filter keys cuts =
 
 -- what follows FROM
 unfoldable pub from_at : Reader Tree → List ItemTree → Reader SelectTree
-from_at e items ts =
+from_at e results ts =
     sources_at e ts >>= λ sources. optional_at mark.Where e sources.1 >>= λ filter.
     keys_at e filter.1 >>= λ keys.
-    cuts_at keys.1 >>= λ cuts. Some (select_of items sources.0 filter.0 keys.0 cuts.0, cuts.1)
-
--- the lexemes behind ALL, or all of them
-unfoldable pub past_all : List Lexeme → List Lexeme
-past_all ts = branch (after mark.All ts) ts (λ r. r)
+    limits_at keys.1 >>= λ cuts. Some (select_of results sources.0 filter.0 keys.0 cuts.0, cuts.1)
 
 -- what follows SELECT
 unfoldable pub select_at : Reader Tree → Reader SelectTree
 select_at e ts =
-    items_at e (past_all ts) >>= λ items.
-    branch (after mark.From items.1) None (λ r. from_at e items.0 r)
+    results_at e (past mark.All ts) >>= λ results.
+    branch (after mark.From results.1) None (λ r. from_at e results.0 r)
 
 abbrev pub update_of : SourceTree → List SetTree → Option Tree → UpdateTree
 update_of source sets filter = record { source = source; sets = sets; filter = filter }
@@ -55,7 +52,7 @@ update_of source sets filter = record { source = source; sets = sets; filter = f
 -- what follows UPDATE
 unfoldable pub update_at : Reader Tree → Reader UpdateTree
 update_at e ts =
-    source_at false ts >>= λ source. branch (after mark.Set source.1) None
+    source_at ts >>= λ source. branch (after mark.Set source.1) None
     (λ r. sets_at e r >>= λ sets.
     optional_at mark.Where e sets.1 >>= λ filter.
     Some (update_of source.0 sets.0 filter.0, filter.1))
@@ -66,7 +63,7 @@ delete_of source filter = record { source = source; filter = filter }
 -- what follows DELETE
 unfoldable pub delete_at : Reader Tree → Reader DeleteTree
 delete_at e ts =
-    branch (after mark.From ts) None (λ r. source_at false r >>= λ source.
+    branch (after mark.From ts) None (λ r. source_at r >>= λ source.
     optional_at mark.Where e source.1 >>= λ filter. Some (delete_of source.0 filter.0, filter.1))
 
 unfoldable pub statement_at : Reader Tree → Reader StatementTree

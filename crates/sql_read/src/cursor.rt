@@ -1,7 +1,7 @@
 //! What stands at the front of the lexemes that are left.
 ghost use Rattle.std.specs.Prelude.{◌≡◌, [], ◌∷◌, length, MatchOption};
 ghost use Rattle.sql_read.specs.Lexemes.{seen, lexeme_of};
-ghost use Rattle.sql_read.specs.Reading.{after, name_at, same_mark};
+ghost use Rattle.sql_read.specs.Reading.{after, past, name_at, same_mark};
 
 use crate::lexeme::{Lexeme, Mark};
 
@@ -51,6 +51,17 @@ pub fn after_mark<'a>(mark: Mark, lexemes: Left<'a>) -> Option<Left<'a>>
         }
         _ => None,
     }
+}
+
+/// The lexemes behind this mark, or all of them where they don't begin with it.
+#[tactic(auto, unfolding(crate::specs::Reading::past))]
+pub fn skip<'a>(mark: Mark, lexemes: Left<'a>) -> Left<'a>
+    ensures { seen result.now ≡ past mark (seen lexemes.now) }
+{
+    if let Some(behind) = after_mark(mark, lexemes) {
+        return behind;
+    }
+    lexemes
 }
 
 /// The name that the lexemes begin with.

@@ -9,17 +9,18 @@ ghost use Rattle.sql_read.specs.Lexemes.{seen};
 ghost use Rattle.sql_read.specs.Reading.{Gives, after, list_at};
 ghost use Rattle.sql_read.specs.Expressions.{below, expr_at, and_at, not_at, test_at, tested_at};
 ghost use Rattle.sql_read.specs.Expressions.{one_of_at};
-ghost use Rattle.sql_read.specs.Expressions.{between_at, entries_at, right_at, operand_at};
+ghost use Rattle.sql_read.specs.Expressions.{between_at, entries_at, operand_at};
 ghost use Rattle.sql_read.specs.Expressions.{primary_at, enclosed_at};
-ghost use Rattle.sql_read.specs.Expressions.{member_at, joint_mark};
+ghost use Rattle.sql_read.specs.Expressions.{nested_at, member_at, joint_mark};
 
 use crate::cursor::{Left, after_mark};
-use crate::follow::{Follow, Joint, find_follow, mark_between};
+use crate::follow::{Follow, find_follow};
 use crate::leaf::{Read, collated, leaf, number};
-use crate::lexeme::{Mark, ReadFault};
+use crate::levels::{Joint, Nested, mark_between};
+use crate::lexeme::{DescentFault, Mark};
 use crate::lists::{Member, separated_list};
 use bumpalo::Bump;
-use sql_tree::{Expr, Lit, Op};
+use sql_tree::{Expr, Lit};
 use std::alloc::Global;
 
 impl Member for Expr<'_> {
@@ -28,42 +29,29 @@ impl Member for Expr<'_> {
     ghost tree = { tree_of };
 }
 
-type ReadList<'a> = Result<(Vec<Expr<'a>>, Left<'a>), ReadFault>;
+type ReadList<'a> = Result<(Vec<Expr<'a>>, Left<'a>), DescentFault>;
 
+/// What stands a depth deeper.
 #[cycle(descent)]
 #[tactic(auto, unfolding(crate::specs::Expressions::below))]
-fn inner_expr<'a>(alloc: Global, arena: &'a Bump, depth: usize, lexemes: Left<'a>) -> Read<'a>
+fn nested<'a>(
+    alloc: Global,
+    arena: &'a Bump,
+    depth: usize,
+    level: Nested,
+    lexemes: Left<'a>,
+) -> Read<'a>
     ensures { Gives (λ x. (tree_of x.0, seen x.1.now)) result
-        ((below depth).expr (seen lexemes.now)) }
+        (nested_at (below depth) level (seen lexemes.now)) }
 {
     if depth == 0 {
-        return Err(ReadFault::Syntax);
+        return Err(DescentFault::Syntax);
     }
-    expr(alloc, arena, depth - 1, lexemes)
-}
-
-#[cycle(descent)]
-#[tactic(auto, unfolding(crate::specs::Expressions::below))]
-fn inner_not<'a>(alloc: Global, arena: &'a Bump, depth: usize, lexemes: Left<'a>) -> Read<'a>
-    ensures { Gives (λ x. (tree_of x.0, seen x.1.now)) result
-        ((below depth).not (seen lexemes.now)) }
-{
-    if depth == 0 {
-        return Err(ReadFault::Syntax);
+    match level {
+        Nested::Expr => expr(alloc, arena, depth - 1, lexemes),
+        Nested::Not => not(alloc, arena, depth - 1, lexemes),
+        Nested::Operand => operand(alloc, arena, depth - 1, lexemes),
     }
-    not(alloc, arena, depth - 1, lexemes)
-}
-
-#[cycle(descent)]
-#[tactic(auto, unfolding(crate::specs::Expressions::below))]
-fn inner_operand<'a>(alloc: Global, arena: &'a Bump, depth: usize, lexemes: Left<'a>) -> Read<'a>
-    ensures { Gives (λ x. (tree_of x.0, seen x.1.now)) result
-        ((below depth).operand (seen lexemes.now)) }
-{
-    if depth == 0 {
-        return Err(ReadFault::Syntax);
-    }
-    operand(alloc, arena, depth - 1, lexemes)
 }
 
 #[cycle(descent)]
@@ -72,10 +60,10 @@ fn enclosed<'a>(alloc: Global, arena: &'a Bump, depth: usize, lexemes: Left<'a>)
     ensures { Gives (λ x. (tree_of x.0, seen x.1.now)) result
         (enclosed_at (below depth).expr (seen lexemes.now)) }
 {
-    let (inner, rest) = inner_expr(alloc, arena, depth, lexemes)?;
+    let (inner, rest) = nested(alloc, arena, depth, Nested::Expr, lexemes)?;
     match after_mark(Mark::Close, rest) {
         Some(behind) => Ok((inner, behind)),
-        None => Err(ReadFault::Syntax),
+        None => Err(DescentFault::Syntax),
     }
 }
 
@@ -105,7 +93,7 @@ fn operand<'a>(alloc: Global, arena: &'a Bump, depth: usize, lexemes: Left<'a>) 
 {
     match after_mark(Mark::Plus, lexemes) {
         Some(behind) => {
-            let (inner, rest) = inner_operand(alloc, arena, depth, behind)?;
+            let (inner, rest) = nested(alloc, arena, depth, Nested::Operand, behind)?;
             Ok((sql_tree::plus(arena, inner)?, rest))
         }
         None => {
@@ -113,24 +101,6 @@ fn operand<'a>(alloc: Global, arena: &'a Bump, depth: usize, lexemes: Left<'a>) 
             collated(arena, inner, rest)
         }
     }
-}
-
-/// The right side of a comparison.
-#[cycle(descent)]
-#[tactic(auto, unfolding(crate::specs::Expressions::right_at))]
-fn right<'a>(
-    alloc: Global,
-    arena: &'a Bump,
-    depth: usize,
-    op: Op,
-    left: Expr<'a>,
-    lexemes: Left<'a>,
-) -> Read<'a>
-    ensures { Gives (λ x. (tree_of x.0, seen x.1.now)) result
-        (right_at (below depth) op (tree_of left.entry) (seen lexemes.now)) }
-{
-    let (other, rest) = operand(alloc, arena, depth, lexemes)?;
-    Ok((sql_tree::cmp(arena, op, left, other)?, rest))
 }
 
 /// The bounds of BETWEEN. An operand holds no AND outside parentheses, so the first one is
@@ -154,7 +124,7 @@ fn between<'a>(
             let (high, left) = operand(alloc, arena, depth, behind)?;
             Ok((sql_tree::between(arena, negated, inner, low, high)?, left))
         }
-        None => Err(ReadFault::Syntax),
+        None => Err(DescentFault::Syntax),
     }
 }
 
@@ -171,7 +141,7 @@ fn entries<'a>(alloc: Global, arena: &'a Bump, depth: usize, lexemes: Left<'a>) 
     let (members, rest) = members(alloc, arena, depth, Joint::Comma, lexemes)?;
     match after_mark(Mark::Close, rest) {
         Some(behind) => Ok((members, behind)),
-        None => Err(ReadFault::Syntax),
+        None => Err(DescentFault::Syntax),
     }
 }
 
@@ -196,13 +166,13 @@ fn one_of<'a>(
                 rest,
             ))
         }
-        None => Err(ReadFault::Syntax),
+        None => Err(DescentFault::Syntax),
     }
 }
 
 /// The rest of a test.
 #[cycle(descent)]
-#[tactic(auto, unfolding(crate::specs::Expressions::tested_at))]
+#[tactic(auto, unfolding(crate::specs::Expressions::tested_at, crate::specs::Expressions::right_at, crate::specs::Expressions::like_at))]
 fn tested<'a>(
     alloc: Global,
     arena: &'a Bump,
@@ -215,10 +185,17 @@ fn tested<'a>(
         (tested_at (below depth) (tree_of left.entry) follow (seen lexemes.now)) }
 {
     match follow {
-        Follow::Cmp(op) => right(alloc, arena, depth, op, left, lexemes),
+        Follow::Cmp(op) => {
+            let (right, rest) = operand(alloc, arena, depth, lexemes)?;
+            Ok((sql_tree::cmp(arena, op, left, right)?, rest))
+        }
         Follow::Null(negated) => Ok((sql_tree::is_null(arena, negated, left)?, lexemes)),
         Follow::Between(negated) => between(alloc, arena, depth, negated, left, lexemes),
         Follow::OneOf(negated) => one_of(alloc, arena, depth, negated, left, lexemes),
+        Follow::Like(negated) => {
+            let (pattern, rest) = operand(alloc, arena, depth, lexemes)?;
+            Ok((sql_tree::like(arena, negated, left, pattern)?, rest))
+        }
     }
 }
 
@@ -243,7 +220,7 @@ fn not<'a>(alloc: Global, arena: &'a Bump, depth: usize, lexemes: Left<'a>) -> R
 {
     match after_mark(Mark::Not, lexemes) {
         Some(behind) => {
-            let (inner, rest) = inner_not(alloc, arena, depth, behind)?;
+            let (inner, rest) = nested(alloc, arena, depth, Nested::Not, behind)?;
             Ok((sql_tree::not(arena, inner)?, rest))
         }
         None => test(alloc, arena, depth, lexemes),
@@ -278,7 +255,7 @@ fn member<'a>(
         (member_at (below depth) joint (seen lexemes.now)) }
 {
     match joint {
-        Joint::Comma => inner_expr(alloc, arena, depth, lexemes),
+        Joint::Comma => nested(alloc, arena, depth, Nested::Expr, lexemes),
         Joint::And => not(alloc, arena, depth, lexemes),
         Joint::Or => and(alloc, arena, depth, lexemes),
     }

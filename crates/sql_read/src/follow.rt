@@ -1,8 +1,8 @@
 //! Which test begins behind its first operand.
 ghost use Rattle.std.specs.Prelude.{◌≡◌, MatchOption};
 ghost use Rattle.sql_read.specs.Lexemes.{seen};
-ghost use Rattle.sql_read.specs.Expressions.{op_at, null_at, is_at, null_test_at, range_at};
-ghost use Rattle.sql_read.specs.Expressions.{follow_at, joint_mark};
+ghost use Rattle.sql_read.specs.Expressions.{op_at, null_at, is_at, null_test_at};
+ghost use Rattle.sql_read.specs.Expressions.{word_test_at, follow_at};
 
 use crate::cursor::{Left, after_mark};
 use crate::lexeme::Mark;
@@ -15,25 +15,7 @@ pub enum Follow {
     Null(bool),
     Between(bool),
     OneOf(bool),
-}
-
-/// What stands between two members of a list within an expression.
-#[derive(Clone, Copy)]
-pub enum Joint {
-    Comma,
-    And,
-    Or,
-}
-
-/// The mark between two members.
-pub fn mark_between(joint: Joint) -> Mark
-    ensures { result ≡ joint_mark joint }
-{
-    match joint {
-        Joint::Comma => Mark::Comma,
-        Joint::And => Mark::And,
-        Joint::Or => Mark::Or,
-    }
+    Like(bool),
 }
 
 #[tactic(auto, unfolding(crate::specs::Expressions::op_at))]
@@ -107,13 +89,17 @@ fn null_test<'a>(lexemes: Left<'a>) -> Option<(bool, Left<'a>)>
     }
 }
 
-#[tactic(auto, unfolding(crate::specs::Expressions::range_at))]
-fn range<'a>(negated: bool, lexemes: Left<'a>) -> Option<(Follow, Left<'a>)>
-    ensures { MatchOption result (range_at negated (seen lexemes.now) ≡ None)
-        (λ r. range_at negated (seen lexemes.now) ≡ Some (r.0, seen r.1.now)) }
+/// BETWEEN, IN or LIKE, which NOT may stand before.
+#[tactic(auto, unfolding(crate::specs::Expressions::word_test_at))]
+fn word_test<'a>(negated: bool, lexemes: Left<'a>) -> Option<(Follow, Left<'a>)>
+    ensures { MatchOption result (word_test_at negated (seen lexemes.now) ≡ None)
+        (λ r. word_test_at negated (seen lexemes.now) ≡ Some (r.0, seen r.1.now)) }
 {
     if let Some(rest) = after_mark(Mark::Between, lexemes) {
         return Some((Follow::Between(negated), rest));
+    }
+    if let Some(rest) = after_mark(Mark::Like, lexemes) {
+        return Some((Follow::Like(negated), rest));
     }
     match after_mark(Mark::In, lexemes) {
         Some(rest) => Some((Follow::OneOf(negated), rest)),
@@ -134,7 +120,7 @@ pub fn find_follow<'a>(lexemes: Left<'a>) -> Option<(Follow, Left<'a>)>
         return Some((Follow::Null(negated), rest));
     }
     match after_mark(Mark::Not, lexemes) {
-        Some(rest) => range(true, rest),
-        None => range(false, lexemes),
+        Some(rest) => word_test(true, rest),
+        None => word_test(false, lexemes),
     }
 }

@@ -6,12 +6,12 @@ ghost use Rattle.sql_read.specs.Reading.{Gives};
 ghost use Rattle.sql_read.specs.Leaves.{signed, number_at, named_at, leaf_at, collated_at};
 
 use crate::cursor::{Left, after_mark, first, name};
-use crate::lexeme::{Lexeme, Mark, ReadFault};
+use crate::lexeme::{DescentFault, Lexeme, Mark};
 use bumpalo::Bump;
 use sql_tree::{Expr, Lit};
 
 /// An expression, and the lexemes behind it.
-pub type Read<'a> = Result<(Expr<'a>, Left<'a>), ReadFault>;
+pub type Read<'a> = Result<(Expr<'a>, Left<'a>), DescentFault>;
 
 /// The number with its sign, where 64 bits hold it.
 pub fn signed(negative: bool, magnitude: u64) -> Option<i64>
@@ -40,13 +40,13 @@ pub fn number<'a>(negative: bool, lexemes: Left<'a>) -> Read<'a>
     match first(lexemes) {
         Some((Lexeme::Int(magnitude), rest)) => match signed(negative, magnitude) {
             Some(value) => Ok((Expr::Lit(Lit::Int(value)), rest)),
-            None => Err(ReadFault::Syntax),
+            None => Err(DescentFault::Syntax),
         },
         Some((Lexeme::Dec(magnitude), rest)) => match signed(negative, magnitude) {
             Some(units) => Ok((Expr::Lit(Lit::Dec(units)), rest)),
-            None => Err(ReadFault::Syntax),
+            None => Err(DescentFault::Syntax),
         },
-        _ => Err(ReadFault::Syntax),
+        _ => Err(DescentFault::Syntax),
     }
 }
 
@@ -58,7 +58,7 @@ fn named<'a>(table: &'a [u8], lexemes: Left<'a>) -> Read<'a>
     match after_mark(Mark::Dot, lexemes) {
         Some(behind) => match name(behind) {
             Some((column, rest)) => Ok((sql_tree::name(Some(table), column), rest)),
-            None => Err(ReadFault::Syntax),
+            None => Err(DescentFault::Syntax),
         },
         None => Ok((sql_tree::name(None, table), lexemes)),
     }
@@ -76,7 +76,7 @@ pub fn leaf<'a>(lexemes: Left<'a>) -> Read<'a>
         Some((Lexeme::Param(number), rest)) => Ok((Expr::Param(number), rest)),
         Some((Lexeme::Int(_), _)) => number(false, lexemes),
         Some((Lexeme::Dec(_), _)) => number(false, lexemes),
-        _ => Err(ReadFault::Syntax),
+        _ => Err(DescentFault::Syntax),
     }
 }
 
@@ -89,7 +89,7 @@ pub fn collated<'a>(arena: &'a Bump, inner: Expr<'a>, lexemes: Left<'a>) -> Read
     match after_mark(Mark::Collate, lexemes) {
         Some(behind) => match name(behind) {
             Some((collation, rest)) => Ok((sql_tree::collate(arena, inner, collation)?, rest)),
-            None => Err(ReadFault::Syntax),
+            None => Err(DescentFault::Syntax),
         },
         None => Ok((inner, lexemes)),
     }

@@ -16,6 +16,8 @@ pub enum Mark {
     Inner,
     Join,
     Cross,
+    Left,
+    Outer,
     On,
     Update,
     Set,
@@ -25,6 +27,7 @@ pub enum Mark {
     Not,
     Between,
     In,
+    Like,
     Is,
     Null,
     Isnull,
@@ -77,18 +80,18 @@ pub enum Lexeme<'a> {
 
 /// Why reading ended without a tree.
 #[derive(Clone, Copy)]
-pub enum ReadFault {
+pub enum DescentFault {
     Syntax,
     Memory,
 }
 
-impl From<Memory> for ReadFault {
+impl From<Memory> for DescentFault {
     ghost use Rattle.std.specs.Prelude.{◌≡◌};
-    ghost use Rattle.sql_read.specs.declared.lexeme.ReadFault.TheVariants.{Memory as memory_fault};
+    ghost use Rattle.sql_read.specs.declared.lexeme.DescentFault.TheVariants as variant;
 
-    ghost from_gives = { λ _ fault. fault ≡ memory_fault };
+    ghost from_gives = { λ _ fault. fault ≡ variant.Memory };
 
-    fn from(_: Memory) -> ReadFault {
-        ReadFault::Memory
+    fn from(_: Memory) -> DescentFault {
+        DescentFault::Memory
     }
 }

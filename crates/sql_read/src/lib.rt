@@ -5,13 +5,15 @@
 mod cursor;
 mod descent;
 mod follow;
-mod items;
 mod keys;
 mod leaf;
+mod levels;
 mod lexeme;
+mod limits;
 mod lists;
+mod results;
 mod sources;
 mod statement;
 
-pub use lexeme::{Direction, Lexeme, Mark, ReadFault};
+pub use lexeme::{DescentFault, Direction, Lexeme, Mark};
 pub use statement::read_statement;

@@ -5,7 +5,7 @@ ghost use Rattle.sql_read.specs.Lists.{Reads, Finds};
 ghost use Rattle.sql_read.specs.Reading.{Gives, after, list_at};
 
 use crate::cursor::{Left, after_mark, count_left};
-use crate::lexeme::{Mark, ReadFault};
+use crate::lexeme::{DescentFault, Mark};
 use sql_value::push;
 use std::alloc::Global;
 
@@ -23,11 +23,11 @@ pub fn list_of<'a, T: Member, First, Follows, Next>(
     read_first: First,
     follows: Follows,
     read_next: Next,
-) -> Result<(Vec<T>, Left<'a>), ReadFault>
+) -> Result<(Vec<T>, Left<'a>), DescentFault>
 where
-    First: Fn(Left<'a>) -> Result<(T, Left<'a>), ReadFault>,
+    First: Fn(Left<'a>) -> Result<(T, Left<'a>), DescentFault>,
     Follows: Fn(Left<'a>) -> Option<Left<'a>>,
-    Next: Fn(Left<'a>) -> Result<(T, Left<'a>), ReadFault>,
+    Next: Fn(Left<'a>) -> Result<(T, Left<'a>), DescentFault>,
     requires first_callable { First.IsAlwaysCallable read_first }
     requires follows_callable { Follows.IsAlwaysCallable follows }
     requires next_callable { Next.IsAlwaysCallable read_next }
@@ -58,9 +58,9 @@ pub fn separated_list<'a, T: Member, Read>(
     separator: Mark,
     lexemes: Left<'a>,
     read: Read,
-) -> Result<(Vec<T>, Left<'a>), ReadFault>
+) -> Result<(Vec<T>, Left<'a>), DescentFault>
 where
-    Read: Fn(Left<'a>) -> Result<(T, Left<'a>), ReadFault> + Copy,
+    Read: Fn(Left<'a>) -> Result<(T, Left<'a>), DescentFault> + Copy,
     requires { Read.IsAlwaysCallable read }
     ensures { (reader : _) → Reads T.tree (Read.post read) reader →
         Gives (λ x. (map T.tree x.0.items, seen x.1.now)) result

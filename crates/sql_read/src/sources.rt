@@ -9,17 +9,17 @@ ghost use Rattle.sql_read.specs.Parts.{optional_at, source_at, joined_source_at,
 ghost use Rattle.sql_read.specs.Parts.{join_begins};
 ghost use Rattle.sql_read.specs.Statements.{sources_at};
 
-use crate::cursor::{Left, after_mark, name};
+use crate::cursor::{Left, after_mark, name, skip};
 use crate::descent::expr;
-use crate::items::alias;
-use crate::lexeme::{Mark, ReadFault};
+use crate::lexeme::{DescentFault, Mark};
 use crate::lists::{Member, list_of};
+use crate::results::alias;
 use bumpalo::Bump;
 use sql_tree::{Expr, Source, place_expr};
 use std::alloc::Global;
 
 /// A source, and the lexemes behind it.
-pub type ReadSource<'a> = Result<(Source<'a>, Left<'a>), ReadFault>;
+pub type ReadSource<'a> = Result<(Source<'a>, Left<'a>), DescentFault>;
 
 /// The condition behind a mark, if the mark stands here.
 #[tactic(auto, unfolding(crate::specs::Parts::optional_at))]
@@ -29,7 +29,7 @@ pub fn condition<'a>(
     depth: usize,
     mark: Mark,
     lexemes: Left<'a>,
-) -> Result<(Option<&'a Expr<'a>>, Left<'a>), ReadFault>
+) -> Result<(Option<&'a Expr<'a>>, Left<'a>), DescentFault>
     ensures { Gives (λ x. (option_map (λ place. tree_of place.now) x.0, seen x.1.now)) result
         (optional_at mark (expr_at (below depth)) (seen lexemes.now)) }
 {
@@ -44,19 +44,20 @@ pub fn condition<'a>(
 
 /// A table, with its alias.
 #[tactic(auto, unfolding(crate::specs::Parts::source_at))]
-pub fn source_read<'a>(cross: bool, lexemes: Left<'a>) -> ReadSource<'a>
+pub fn source_read<'a>(lexemes: Left<'a>) -> ReadSource<'a>
     ensures { Gives (λ x. (source_tree x.0, seen x.1.now)) result
-        (source_at cross (seen lexemes.now)) }
+        (source_at (seen lexemes.now)) }
 {
     let Some((table, behind)) = name(lexemes) else {
-        return Err(ReadFault::Syntax);
+        return Err(DescentFault::Syntax);
     };
     let (called, rest) = alias(false, behind)?;
     Ok((
         Source {
             table,
             alias: called,
-            cross,
+            cross: false,
+            left: false,
             on: None,
         },
         rest,
@@ -68,19 +69,18 @@ fn joined_source<'a>(
     alloc: Global,
     arena: &'a Bump,
     depth: usize,
-    cross: bool,
     lexemes: Left<'a>,
 ) -> ReadSource<'a>
     ensures { Gives (λ x. (source_tree x.0, seen x.1.now)) result
-        (joined_source_at (expr_at (below depth)) cross (seen lexemes.now)) }
+        (joined_source_at (expr_at (below depth)) (seen lexemes.now)) }
 {
     match after_mark(Mark::Join, lexemes) {
         Some(behind) => {
-            let (source, left) = source_read(cross, behind)?;
+            let (source, left) = source_read(behind)?;
             let (on, rest) = condition(alloc, arena, depth, Mark::On, left)?;
             Ok((Source { on, ..source }, rest))
         }
-        None => Err(ReadFault::Syntax),
+        None => Err(DescentFault::Syntax),
     }
 }
 
@@ -91,15 +91,29 @@ fn join_read<'a>(alloc: Global, arena: &'a Bump, depth: usize, lexemes: Left<'a>
         (join_at (expr_at (below depth)) (seen lexemes.now)) }
 {
     if let Some(rest) = after_mark(Mark::Comma, lexemes) {
-        return source_read(false, rest);
+        return source_read(rest);
     }
-    if let Some(rest) = after_mark(Mark::Cross, lexemes) {
-        return joined_source(alloc, arena, depth, true, rest);
+    if let Some(behind) = after_mark(Mark::Cross, lexemes) {
+        let (source, rest) = joined_source(alloc, arena, depth, behind)?;
+        return Ok((
+            Source {
+                cross: true,
+                ..source
+            },
+            rest,
+        ));
     }
-    match after_mark(Mark::Inner, lexemes) {
-        Some(rest) => joined_source(alloc, arena, depth, false, rest),
-        None => joined_source(alloc, arena, depth, false, lexemes),
+    if let Some(behind) = after_mark(Mark::Left, lexemes) {
+        let (source, rest) = joined_source(alloc, arena, depth, skip(Mark::Outer, behind))?;
+        return Ok((
+            Source {
+                left: true,
+                ..source
+            },
+            rest,
+        ));
     }
+    joined_source(alloc, arena, depth, skip(Mark::Inner, lexemes))
 }
 
 /// The lexemes, where a further source begins with them.
@@ -112,6 +126,9 @@ fn joins<'a>(lexemes: Left<'a>) -> Option<Left<'a>>
         return Some(lexemes);
     }
     if after_mark(Mark::Cross, lexemes).is_some() {
+        return Some(lexemes);
+    }
+    if after_mark(Mark::Left, lexemes).is_some() {
         return Some(lexemes);
     }
     if after_mark(Mark::Inner, lexemes).is_some() {
@@ -136,14 +153,14 @@ pub fn sources<'a>(
     arena: &'a Bump,
     depth: usize,
     lexemes: Left<'a>,
-) -> Result<(Vec<Source<'a>>, Left<'a>), ReadFault>
+) -> Result<(Vec<Source<'a>>, Left<'a>), DescentFault>
     ensures { Gives (λ x. (map source_tree x.0.items, seen x.1.now)) result
         (sources_at (expr_at (below depth)) (seen lexemes.now)) }
 {
     list_of(
         alloc,
         lexemes,
-        |left| source_read(false, left),
+        source_read,
         joins,
         |left| join_read(alloc, arena, depth, left),
     )

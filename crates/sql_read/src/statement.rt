@@ -6,16 +6,17 @@ ghost use Rattle.sql_read.specs.Lexemes.{seen};
 ghost use Rattle.sql_read.specs.Reading.{Gives};
 ghost use Rattle.sql_read.specs.Expressions.{below, expr_at};
 ghost use Rattle.sql_read.specs.Parts.{set_at};
-ghost use Rattle.sql_read.specs.Statements.{sets_at, from_at, past_all, select_at, update_at};
+ghost use Rattle.sql_read.specs.Statements.{sets_at, from_at, select_at, update_at};
 ghost use Rattle.sql_read.specs.Statements.{delete_at};
 ghost use Rattle.sql_read.specs.Statements.{statement_at, whole_at};
 
-use crate::cursor::{Left, after_mark, count_left, name};
+use crate::cursor::{Left, after_mark, count_left, name, skip};
 use crate::descent::expr;
-use crate::items::items;
-use crate::keys::{cuts, keys};
-use crate::lexeme::{Lexeme, Mark, ReadFault};
+use crate::keys::keys;
+use crate::lexeme::{DescentFault, Lexeme, Mark};
+use crate::limits::limits;
 use crate::lists::{Member, separated_list};
+use crate::results::results;
 use crate::sources::{condition, source_read, sources};
 use bumpalo::Bump;
 use sql_tree::{Delete, Expr, Item, Select, Stmt, Update, place_expr, place_slice};
@@ -27,19 +28,19 @@ fn from_read<'a>(
     alloc: Global,
     arena: &'a Bump,
     depth: usize,
-    items: &'a [Item<'a>],
+    results: &'a [Item<'a>],
     lexemes: Left<'a>,
-) -> Result<(Select<'a>, Left<'a>), ReadFault>
+) -> Result<(Select<'a>, Left<'a>), DescentFault>
     ensures { Gives (λ x. (select_tree x.0, seen x.1.now)) result
-        (from_at (expr_at (below depth)) (map item_tree items.now) (seen lexemes.now)) }
+        (from_at (expr_at (below depth)) (map item_tree results.now) (seen lexemes.now)) }
 {
     let (source_list, behind) = sources(alloc, arena, depth, lexemes)?;
     let (filter, left) = condition(alloc, arena, depth, Mark::Where, behind)?;
     let (key_list, over) = keys(alloc, arena, depth, left)?;
-    let ((limit, offset), rest) = cuts(over)?;
+    let ((limit, offset), rest) = limits(over)?;
     Ok((
         Select {
-            items,
+            items: results,
             sources: place_slice(arena, source_list.as_slice())?,
             filter,
             keys: place_slice(arena, key_list.as_slice())?,
@@ -50,17 +51,6 @@ fn from_read<'a>(
     ))
 }
 
-/// The lexemes behind ALL, or all of them.
-#[tactic(auto, unfolding(crate::specs::Statements::past_all))]
-fn skip_all<'a>(lexemes: Left<'a>) -> Left<'a>
-    ensures { seen result.now ≡ past_all (seen lexemes.now) }
-{
-    if let Some(behind) = after_mark(Mark::All, lexemes) {
-        return behind;
-    }
-    lexemes
-}
-
 /// What follows SELECT.
 #[tactic(auto, unfolding(crate::specs::Statements::select_at))]
 fn select_read<'a>(
@@ -68,21 +58,21 @@ fn select_read<'a>(
     arena: &'a Bump,
     depth: usize,
     lexemes: Left<'a>,
-) -> Result<(Select<'a>, Left<'a>), ReadFault>
+) -> Result<(Select<'a>, Left<'a>), DescentFault>
     ensures { Gives (λ x. (select_tree x.0, seen x.1.now)) result
         (select_at (expr_at (below depth)) (seen lexemes.now)) }
 {
-    let (list, behind) = items(alloc, arena, depth, skip_all(lexemes))?;
+    let (list, behind) = results(alloc, arena, depth, skip(Mark::All, lexemes))?;
     match after_mark(Mark::From, behind) {
         Some(rest) => {
             let places = place_slice(arena, list.as_slice())?;
             from_read(alloc, arena, depth, places, rest)
         }
-        None => Err(ReadFault::Syntax),
+        None => Err(DescentFault::Syntax),
     }
 }
 
-type ReadSet<'a> = Result<((&'a [u8], &'a Expr<'a>), Left<'a>), ReadFault>;
+type ReadSet<'a> = Result<((&'a [u8], &'a Expr<'a>), Left<'a>), DescentFault>;
 
 #[tactic(auto, unfolding(crate::specs::Parts::set_at))]
 fn set_read<'a>(alloc: Global, arena: &'a Bump, depth: usize, lexemes: Left<'a>) -> ReadSet<'a>
@@ -90,14 +80,14 @@ fn set_read<'a>(alloc: Global, arena: &'a Bump, depth: usize, lexemes: Left<'a>)
         (set_at (expr_at (below depth)) (seen lexemes.now)) }
 {
     let Some((column, behind)) = name(lexemes) else {
-        return Err(ReadFault::Syntax);
+        return Err(DescentFault::Syntax);
     };
     match after_mark(Mark::Eq, behind) {
         Some(left) => {
             let (value, rest) = expr(alloc, arena, depth, left)?;
             Ok(((column, place_expr(arena, value)?), rest))
         }
-        None => Err(ReadFault::Syntax),
+        None => Err(DescentFault::Syntax),
     }
 }
 
@@ -114,7 +104,7 @@ fn sets<'a>(
     arena: &'a Bump,
     depth: usize,
     lexemes: Left<'a>,
-) -> Result<(Vec<(&'a [u8], &'a Expr<'a>)>, Left<'a>), ReadFault>
+) -> Result<(Vec<(&'a [u8], &'a Expr<'a>)>, Left<'a>), DescentFault>
     ensures { Gives (λ x. (map set_tree x.0.items, seen x.1.now)) result
         (sets_at (expr_at (below depth)) (seen lexemes.now)) }
 {
@@ -129,11 +119,11 @@ fn update_read<'a>(
     arena: &'a Bump,
     depth: usize,
     lexemes: Left<'a>,
-) -> Result<(Update<'a>, Left<'a>), ReadFault>
+) -> Result<(Update<'a>, Left<'a>), DescentFault>
     ensures { Gives (λ x. (update_tree x.0, seen x.1.now)) result
         (update_at (expr_at (below depth)) (seen lexemes.now)) }
 {
-    let (source, behind) = source_read(false, lexemes)?;
+    let (source, behind) = source_read(lexemes)?;
     match after_mark(Mark::Set, behind) {
         Some(left) => {
             let (list, over) = sets(alloc, arena, depth, left)?;
@@ -148,7 +138,7 @@ fn update_read<'a>(
                 rest,
             ))
         }
-        None => Err(ReadFault::Syntax),
+        None => Err(DescentFault::Syntax),
     }
 }
 
@@ -159,17 +149,17 @@ fn delete_read<'a>(
     arena: &'a Bump,
     depth: usize,
     lexemes: Left<'a>,
-) -> Result<(Delete<'a>, Left<'a>), ReadFault>
+) -> Result<(Delete<'a>, Left<'a>), DescentFault>
     ensures { Gives (λ x. (delete_tree x.0, seen x.1.now)) result
         (delete_at (expr_at (below depth)) (seen lexemes.now)) }
 {
     match after_mark(Mark::From, lexemes) {
         Some(behind) => {
-            let (source, left) = source_read(false, behind)?;
+            let (source, left) = source_read(behind)?;
             let (filter, rest) = condition(alloc, arena, depth, Mark::Where, left)?;
             Ok((Delete { source, filter }, rest))
         }
-        None => Err(ReadFault::Syntax),
+        None => Err(DescentFault::Syntax),
     }
 }
 
@@ -179,7 +169,7 @@ fn statement_read<'a>(
     arena: &'a Bump,
     depth: usize,
     lexemes: Left<'a>,
-) -> Result<(Stmt<'a>, Left<'a>), ReadFault>
+) -> Result<(Stmt<'a>, Left<'a>), DescentFault>
     ensures { Gives (λ x. (statement_tree x.0, seen x.1.now)) result
         (statement_at (expr_at (below depth)) (seen lexemes.now)) }
 {
@@ -196,7 +186,7 @@ fn statement_read<'a>(
             let (delete, rest) = delete_read(alloc, arena, depth, behind)?;
             Ok((Stmt::Delete(delete), rest))
         }
-        None => Err(ReadFault::Syntax),
+        None => Err(DescentFault::Syntax),
     }
 }
 
@@ -206,12 +196,12 @@ pub fn read_statement<'a>(
     alloc: Global,
     arena: &'a Bump,
     lexemes: &'a [Lexeme<'a>],
-) -> Result<Stmt<'a>, ReadFault>
+) -> Result<Stmt<'a>, DescentFault>
     ensures { Gives statement_tree result (whole_at (seen lexemes.now)) }
 {
     let (statement, rest) = statement_read(alloc, arena, count_left(lexemes), lexemes)?;
     match crate::cursor::first(rest) {
-        Some(_) => Err(ReadFault::Syntax),
+        Some(_) => Err(DescentFault::Syntax),
         None => Ok(statement),
     }
 }

@@ -19,6 +19,7 @@ pub record SourceTree : Type 0 where
   pub table : List ℕ
   pub alias : Option (List ℕ)
   pub cross : Bool
+  pub left : Bool
   pub on : Option Tree
 
 pub data ItemTree : Type 0 where
@@ -62,6 +63,7 @@ source_tree s = record {
   table = s.table.now;
   alias = option_map (λ bytes. bytes.now) s.alias;
   cross = s.cross;
+  left = s.left;
   on = option_map (λ expr. tree_of expr.now) s.on;
 }
 

@@ -20,6 +20,7 @@ mutual
     Collate : Tree → List ℕ → Tree
     Cmp : Op → Tree → Tree → Tree
     Between : Bool → Tree → Tree → Tree → Tree
+    Like : (negated : Bool) (left pattern : Tree) → Tree
     OneOf : Bool → Tree → Trees → Tree
     IsNull : Bool → Tree → Tree
     Not : Tree → Tree
@@ -51,6 +52,7 @@ node_step (node.Plus x) = Plus x.now
 node_step (node.Collate x collation) = Collate x.now collation.now
 node_step (node.Cmp op x y) = Cmp op x.now y.now
 node_step (node.Between negated x low high) = Between negated x.now low.now high.now
+node_step (node.Like negated left pattern) = Like negated left.now pattern.now
 node_step (node.OneOf negated x entries) = OneOf negated x.now entries
 node_step (node.IsNull negated x) = IsNull negated x.now
 node_step (node.Not x) = Not x.now

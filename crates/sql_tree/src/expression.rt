@@ -39,6 +39,8 @@ pub enum Expr<'a> {
     Cmp(Op, &'a Expr<'a>, &'a Expr<'a>),
     /// The expression, its lower and its upper bound.
     Between(bool, &'a Expr<'a>, &'a Expr<'a>, &'a Expr<'a>),
+    /// LIKE with its left side and the pattern.
+    Like(bool, &'a Expr<'a>, &'a Expr<'a>),
     /// IN with the entries of its list.
     OneOf(bool, &'a Expr<'a>, Exprs<'a>),
     IsNull(bool, &'a Expr<'a>),

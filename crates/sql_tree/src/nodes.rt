@@ -62,6 +62,23 @@ pub fn between<'a>(
     ))
 }
 
+/// `left LIKE pattern`, or its NOT form.
+pub fn like<'a>(
+    arena: &'a Bump,
+    negated: bool,
+    left: Expr<'a>,
+    pattern: Expr<'a>,
+) -> Result<Expr<'a>, Memory>
+    ensures { IfOk result (λ made.
+        tree_of made ≡ tree.Like negated (tree_of left.entry) (tree_of pattern.entry)) }
+{
+    Ok(Expr::Like(
+        negated,
+        place_expr(arena, left)?,
+        place_expr(arena, pattern)?,
+    ))
+}
+
 /// `left IN (entries)`, or its NOT form.
 #[tactic(auto, using(crate::proofs::TreeLists::seen_lists))]
 pub fn one_of<'a>(

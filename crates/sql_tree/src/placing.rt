@@ -6,24 +6,25 @@ use bumpalo::Bump;
 use bumpalo::collections::into_bump_slice;
 use sql_value::Memory;
 
-/// The expression in the arena.
-pub fn place_expr<'a>(arena: &'a Bump, expr: Expr<'a>) -> Result<&'a Expr<'a>, Memory>
-    ensures { IfOk result (λ place. place.now ≡ expr.entry) }
+/// The value in the arena.
+pub fn place<'a, T: Copy>(arena: &'a Bump, value: T) -> Result<&'a T, Memory>
+    ensures { IfOk result (λ place. place.now ≡ value) }
 {
-    match arena.try_alloc(expr) {
-        Ok(place) => Ok(place),
-        Err(_) => Err(Memory),
-    }
+    Ok(arena.try_alloc(value)?)
 }
 
 /// The list in the arena.
 pub fn place_slice<'a, T: Copy>(arena: &'a Bump, list: &[T]) -> Result<&'a [T], Memory>
     ensures { IfOk result (λ place. place.now ≡ list.now) }
 {
-    match arena.try_alloc_slice_copy(list) {
-        Ok(place) => Ok(place),
-        Err(_) => Err(Memory),
-    }
+    Ok(arena.try_alloc_slice_copy(list)?)
+}
+
+/// The expression in the arena.
+pub fn place_expr<'a>(arena: &'a Bump, expr: Expr<'a>) -> Result<&'a Expr<'a>, Memory>
+    ensures { IfOk result (λ place. place.now ≡ expr.entry) }
+{
+    place(arena, expr)
 }
 
 /// The bytes in the arena.
@@ -40,9 +41,7 @@ pub fn place_list<'a>(arena: &'a Bump, list: &[Expr<'a>]) -> Result<Exprs<'a>, M
     let mut places: Vec<&'a Expr<'a>, &'a Bump> = Vec::new(arena);
     for expr in list {
         let place = place_expr(arena, *expr)?;
-        if places.push(place).is_err() {
-            return Err(Memory);
-        }
+        places.push(place)?;
     }
     Ok(Exprs {
         members: into_bump_slice(places),

@@ -8,6 +8,8 @@ pub struct Source<'a> {
     pub alias: Option<&'a [u8]>,
     /// Whether CROSS JOIN stands before it, which fixes its place in the join order.
     pub cross: bool,
+    /// Whether LEFT JOIN stands before it, which keeps the rows before it that have no partner.
+    pub left: bool,
     pub on: Option<&'a Expr<'a>>,
 }
 

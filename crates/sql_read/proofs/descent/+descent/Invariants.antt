@@ -1,6 +1,6 @@
 use Rattle.std.proofs.Common.{ℕ, ◌+◌, ◌*◌}
-use Rattle.sql_read.specs.declared.follow.Joint.{Joint}
-use Rattle.sql_read.specs.declared.follow.Joint.TheVariants as joint
+use Rattle.sql_read.specs.declared.levels.Joint.{Joint}
+use Rattle.sql_read.specs.declared.levels.Joint.TheVariants as joint
 use Rattle.sql_read.proofs.descent.+descent.Given as goal
 
 -- Each level calls the next, and only what is a depth deeper calls a level above.
@@ -39,9 +39,6 @@ decreases-one_of l = 18 * l.depth + 6
 abbrev pub decreases-between : goal.decreases-between
 decreases-between l = 18 * l.depth + 5
 
-abbrev pub decreases-right : goal.decreases-right
-decreases-right l = 18 * l.depth + 5
-
 abbrev pub decreases-entries : goal.decreases-entries
 decreases-entries l = 18 * l.depth + 5
 
@@ -54,11 +51,5 @@ decreases-primary l = 18 * l.depth + 2
 abbrev pub decreases-enclosed : goal.decreases-enclosed
 decreases-enclosed l = 18 * l.depth + 1
 
-abbrev pub decreases-inner_expr : goal.decreases-inner_expr
-decreases-inner_expr l = 18 * l.depth
-
-abbrev pub decreases-inner_not : goal.decreases-inner_not
-decreases-inner_not l = 18 * l.depth
-
-abbrev pub decreases-inner_operand : goal.decreases-inner_operand
-decreases-inner_operand l = 18 * l.depth
+abbrev pub decreases-nested : goal.decreases-nested
+decreases-nested l = 18 * l.depth

@@ -4,7 +4,7 @@ use Rattle.std.proofs.Common.{◌++◌, map, refl, ap, if◌then◌else◌}
 use Rattle.std.specs.Global.{Vec}
 use Rattle.std.specs.Map.{lookup}
 use Rattle.indexmap.specs.IndexMap.{insert_entry}
-use Rattle.sql_parse.specs.Parameters.{Met, is_name, number_named}
+use Rattle.sql_lexemes.specs.Parameters.{Met, is_name, number_named}
 
 -- what a map of owned names is seen as
 abbrev pub seen_names : List (Vec ℕ × ℕ) → List (List ℕ × ℕ)

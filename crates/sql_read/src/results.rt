@@ -4,12 +4,13 @@ ghost use Rattle.sql_tree.specs.Statements.{ItemTree, item_tree};
 ghost use Rattle.sql_read.specs.Lexemes.{seen};
 ghost use Rattle.sql_read.specs.Reading.{Gives};
 ghost use Rattle.sql_read.specs.Expressions.{below, expr_at};
-ghost use Rattle.sql_read.specs.Parts.{label_at, alias_at, table_star_at, value_item_at, item_at};
-ghost use Rattle.sql_read.specs.Statements.{items_at};
+ghost use Rattle.sql_read.specs.Parts.{label_at, alias_at, table_star_at, value_result_at};
+ghost use Rattle.sql_read.specs.Parts.{result_at};
+ghost use Rattle.sql_read.specs.Statements.{results_at};
 
 use crate::cursor::{Left, after_mark, first, name};
 use crate::descent::expr;
-use crate::lexeme::{Lexeme, Mark, ReadFault};
+use crate::lexeme::{DescentFault, Lexeme, Mark};
 use crate::lists::{Member, separated_list};
 use bumpalo::Bump;
 use sql_tree::{Item, place_expr};
@@ -29,14 +30,17 @@ fn label<'a>(texts: bool, lexemes: Left<'a>) -> Option<(&'a [u8], Left<'a>)>
 
 /// The alias that stands here, if one does: a name, and where `texts` is true also a text.
 #[tactic(auto, unfolding(crate::specs::Parts::alias_at))]
-pub fn alias<'a>(texts: bool, lexemes: Left<'a>) -> Result<(Option<&'a [u8]>, Left<'a>), ReadFault>
+pub fn alias<'a>(
+    texts: bool,
+    lexemes: Left<'a>,
+) -> Result<(Option<&'a [u8]>, Left<'a>), DescentFault>
     ensures { Gives (λ x. (option_map (λ bytes. bytes.now) x.0, seen x.1.now)) result
         (alias_at texts (seen lexemes.now)) }
 {
     match after_mark(Mark::As, lexemes) {
         Some(behind) => match label(texts, behind) {
             Some((bytes, rest)) => Ok((Some(bytes), rest)),
-            None => Err(ReadFault::Syntax),
+            None => Err(DescentFault::Syntax),
         },
         None => match label(texts, lexemes) {
             Some((bytes, rest)) => Ok((Some(bytes), rest)),
@@ -62,37 +66,37 @@ fn table_star<'a>(lexemes: Left<'a>) -> Option<(&'a [u8], Left<'a>)>
     }
 }
 
-#[tactic(auto, unfolding(crate::specs::Parts::value_item_at))]
-fn value_item<'a>(
+#[tactic(auto, unfolding(crate::specs::Parts::value_result_at))]
+fn value_result<'a>(
     alloc: Global,
     arena: &'a Bump,
     depth: usize,
     lexemes: Left<'a>,
-) -> Result<(Item<'a>, Left<'a>), ReadFault>
+) -> Result<(Item<'a>, Left<'a>), DescentFault>
     ensures { Gives (λ x. (item_tree x.0, seen x.1.now)) result
-        (value_item_at (expr_at (below depth)) (seen lexemes.now)) }
+        (value_result_at (expr_at (below depth)) (seen lexemes.now)) }
 {
     let (value, behind) = expr(alloc, arena, depth, lexemes)?;
     let (called, rest) = alias(true, behind)?;
     Ok((Item::Value(place_expr(arena, value)?, called), rest))
 }
 
-#[tactic(auto, unfolding(crate::specs::Parts::item_at))]
-fn item_read<'a>(
+#[tactic(auto, unfolding(crate::specs::Parts::result_at))]
+fn result_read<'a>(
     alloc: Global,
     arena: &'a Bump,
     depth: usize,
     lexemes: Left<'a>,
-) -> Result<(Item<'a>, Left<'a>), ReadFault>
+) -> Result<(Item<'a>, Left<'a>), DescentFault>
     ensures { Gives (λ x. (item_tree x.0, seen x.1.now)) result
-        (item_at (expr_at (below depth)) (seen lexemes.now)) }
+        (result_at (expr_at (below depth)) (seen lexemes.now)) }
 {
     if let Some(rest) = after_mark(Mark::Star, lexemes) {
         return Ok((Item::Star, rest));
     }
     match table_star(lexemes) {
         Some((table, rest)) => Ok((Item::TableStar(table), rest)),
-        None => value_item(alloc, arena, depth, lexemes),
+        None => value_result(alloc, arena, depth, lexemes),
     }
 }
 
@@ -103,16 +107,16 @@ impl Member for Item<'_> {
 }
 
 /// The entries of the result list.
-#[tactic(auto, unfolding(crate::specs::Statements::items_at))]
-pub fn items<'a>(
+#[tactic(auto, unfolding(crate::specs::Statements::results_at))]
+pub fn results<'a>(
     alloc: Global,
     arena: &'a Bump,
     depth: usize,
     lexemes: Left<'a>,
-) -> Result<(Vec<Item<'a>>, Left<'a>), ReadFault>
+) -> Result<(Vec<Item<'a>>, Left<'a>), DescentFault>
     ensures { Gives (λ x. (map item_tree x.0.items, seen x.1.now)) result
-        (items_at (expr_at (below depth)) (seen lexemes.now)) }
+        (results_at (expr_at (below depth)) (seen lexemes.now)) }
 {
-    let read = |left| item_read(alloc, arena, depth, left);
+    let read = |left| result_read(alloc, arena, depth, left);
     separated_list(alloc, Mark::Comma, lexemes, read)
 }

@@ -5,8 +5,8 @@ use Rattle.std.proofs.lemmas.List.{map-append}
 use Rattle.sql_tokens.specs.declared.token.Token.{Token}
 use Rattle.sql_read.specs.declared.lexeme.Lexeme.{Lexeme as BorrowedLexeme}
 use Rattle.sql_read.specs.Lexemes.{Lexeme, lexeme_of, seen}
-use Rattle.sql_parse.specs.Parameters.{Met}
-use Rattle.sql_parse.specs.TokenLexemes.{lexeme_at, met_after, lexemes_from}
+use Rattle.sql_lexemes.specs.Parameters.{Met}
+use Rattle.sql_lexemes.specs.TokenLexemes.{lexeme_at, met_after, lexemes_from}
 
 pub goes_on : (text : List ℕ) (met later : Met) (items longer : List BorrowedLexeme)
     (l : BorrowedLexeme)

@@ -1,8 +1,8 @@
 use Rattle.std.proofs.Common.{ap, sym, ◌∙◌}
 use Rattle.std.specs.Prelude.{option_copied}
-use Rattle.sql_parse.specs.Parameters.{number_named}
-use Rattle.sql_parse.proofs.NamedParameters.{numbered}
-use Rattle.sql_parse.proofs.parameters.Parameters.find.Goals as goal
+use Rattle.sql_lexemes.specs.Parameters.{number_named}
+use Rattle.sql_lexemes.proofs.NamedParameters.{numbered}
+use Rattle.sql_lexemes.proofs.parameters.Parameters.find.Goals as goal
 
 pub returns-in-Some : goal.returns-in-Some
 returns-in-Some c =

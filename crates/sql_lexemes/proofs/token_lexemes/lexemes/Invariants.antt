@@ -1,7 +1,7 @@
 use Rattle.std.proofs.Common.{◌≡◌, ◌++◌, drop}
 use Rattle.sql_read.specs.Lexemes.{seen}
-use Rattle.sql_parse.specs.TokenLexemes.{lexemes_from, lexemes_of}
-use Rattle.sql_parse.proofs.token_lexemes.lexemes.Given as goal
+use Rattle.sql_lexemes.specs.TokenLexemes.{lexemes_from, lexemes_of}
+use Rattle.sql_lexemes.proofs.token_lexemes.lexemes.Given as goal
 
 abbrev pub invariant-loop-token : goal.invariant-loop-token
 invariant-loop-token l =

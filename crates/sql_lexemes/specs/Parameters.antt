@@ -3,6 +3,7 @@ use Rattle.std.specs.Prelude.{ℕ, ◌+◌, ◌==◌, max, Bool, cond, Option, N
 use Rattle.std.specs.Prelude.{[], ◌∷◌, ◌++◌, nat_eq}
 use Rattle.std.specs.Cmp.Lexicographic.{pointwise}
 use Rattle.sql_meaning.specs.Numbers.{digits_up_to}
+use Rattle.sql_tokens.specs.Pieces.{most_parameters}
 
 -- The parameters met so far: the greatest number, and the names, each with its number.
 pub record Met : Type 0 where
@@ -33,7 +34,7 @@ form_of (b ∷ d ∷ ds) = cond (b == 63) (numbered (d ∷ ds)) (named (b ∷ d 
 
 abbrev pub number_by : Met → Form → Option ℕ
 number_by met next = Some (met.greatest + 1)
-number_by met (numbered digits) = digits_up_to 32766 digits
+number_by met (numbered digits) = digits_up_to most_parameters digits
 number_by met (named name) = Some (unwrap_or (number_named name met.named) (met.greatest + 1))
 
 -- `?n` is n; `?` is one more than the greatest number so far; a name has the number that it had
@@ -55,7 +56,7 @@ with_name met name None = record {
 
 abbrev pub met_by_form : Met → Form → Met
 met_by_form met next = record { greatest = met.greatest + 1; named = met.named }
-met_by_form met (numbered digits) = raised met (digits_up_to 32766 digits)
+met_by_form met (numbered digits) = raised met (digits_up_to most_parameters digits)
 met_by_form met (named name) = with_name met name (number_named name met.named)
 
 -- the parameters met once this one is passed

@@ -1,9 +1,9 @@
 //! Each token as a lexeme.
 ghost use Rattle.std.specs.Prelude.{◌≡◌, IfOk};
 ghost use Rattle.sql_read.specs.Lexemes.{seen, lexeme_of};
-ghost use Rattle.sql_parse.specs.TokenLexemes.{keyword_mark, symbol_mark, keyword_direction};
-ghost use Rattle.sql_parse.specs.TokenLexemes.{keyword_lexeme, symbol_lexeme, number_lexeme};
-ghost use Rattle.sql_parse.specs.TokenLexemes.{lexeme_at, met_after, lexemes_of};
+ghost use Rattle.sql_lexemes.specs.TokenLexemes.{keyword_mark, symbol_mark, keyword_direction};
+ghost use Rattle.sql_lexemes.specs.TokenLexemes.{keyword_lexeme, symbol_lexeme, number_lexeme};
+ghost use Rattle.sql_lexemes.specs.TokenLexemes.{lexeme_at, met_after, lexemes_of};
 ghost use Rattle.sql_tokens.specs.NumberValues.{number_of};
 ghost use Rattle.sql_tokens.specs.TokenValues.{value_of};
 
@@ -35,6 +35,8 @@ fn keyword_mark(keyword: Keyword) -> Option<Mark>
         Keyword::Inner => Some(Mark::Inner),
         Keyword::Join => Some(Mark::Join),
         Keyword::Cross => Some(Mark::Cross),
+        Keyword::Left => Some(Mark::Left),
+        Keyword::Outer => Some(Mark::Outer),
         Keyword::On => Some(Mark::On),
         Keyword::Update => Some(Mark::Update),
         Keyword::Set => Some(Mark::Set),
@@ -44,6 +46,7 @@ fn keyword_mark(keyword: Keyword) -> Option<Mark>
         Keyword::Not => Some(Mark::Not),
         Keyword::Between => Some(Mark::Between),
         Keyword::In => Some(Mark::In),
+        Keyword::Like => Some(Mark::Like),
         Keyword::Is => Some(Mark::Is),
         Keyword::Null => Some(Mark::Null),
         Keyword::Isnull => Some(Mark::Isnull),
@@ -173,10 +176,7 @@ pub fn lexemes<'a>(
     ensures { IfOk result (λ list. seen list.now ≡ lexemes_of text.now tokens.now) }
 {
     let mut met = Parameters::new(alloc);
-    let mut list: Vec<Lexeme<'a>, &'a Bump> = match Vec::with_capacity(arena, tokens.len()) {
-        Ok(list) => list,
-        Err(_) => return Err(Memory),
-    };
+    let mut list: Vec<Lexeme<'a>, &'a Bump> = Vec::with_capacity(arena, tokens.len())?;
     for token in tokens {
         let lexeme = lexeme_read(alloc, arena, &mut met, text, *token)?;
         push(&mut list, lexeme)?;

@@ -19,7 +19,7 @@ use Rattle.sql_read.specs.declared.lexeme.Mark.{Mark}
 use Rattle.sql_read.specs.declared.lexeme.Mark.TheVariants as mark
 use Rattle.sql_read.specs.Lexemes.{Lexeme}
 use Rattle.sql_read.specs.Lexemes as lexeme
-use Rattle.sql_parse.specs.Parameters.{Met, parameter_number, met_behind, no_parameters}
+use Rattle.sql_lexemes.specs.Parameters.{Met, parameter_number, met_behind, no_parameters}
 
 -- the mark that a word is, if the grammar has it
 unfoldable pub keyword_mark : Keyword → Option Mark
@@ -35,6 +35,8 @@ keyword_mark keyword.As = Some mark.As
 keyword_mark keyword.Inner = Some mark.Inner
 keyword_mark keyword.Join = Some mark.Join
 keyword_mark keyword.Cross = Some mark.Cross
+keyword_mark keyword.Left = Some mark.Left
+keyword_mark keyword.Outer = Some mark.Outer
 keyword_mark keyword.On = Some mark.On
 keyword_mark keyword.Update = Some mark.Update
 keyword_mark keyword.Set = Some mark.Set
@@ -44,6 +46,7 @@ keyword_mark keyword.And = Some mark.And
 keyword_mark keyword.Not = Some mark.Not
 keyword_mark keyword.Between = Some mark.Between
 keyword_mark keyword.In = Some mark.In
+keyword_mark keyword.Like = Some mark.Like
 keyword_mark keyword.Is = Some mark.Is
 keyword_mark keyword.Null = Some mark.Null
 keyword_mark keyword.Isnull = Some mark.Isnull

@@ -1,16 +1,14 @@
 //! The numbers of parameters.
 ghost use Rattle.std.specs.Prelude.{◌≡◌, ◌+◌, ◌++◌, ◌∷◌, [], None, unwrap_or, IfOk, OnOk};
-ghost use Rattle.sql_parse.specs.Parameters.{no_parameters, number_named, parameter_number};
-ghost use Rattle.sql_parse.specs.Parameters.{met_behind};
-ghost use Rattle.sql_parse.specs.Parameters.{with_name};
+ghost use Rattle.sql_lexemes.specs.Parameters.{no_parameters, number_named, parameter_number};
+ghost use Rattle.sql_lexemes.specs.Parameters.{met_behind};
+ghost use Rattle.sql_lexemes.specs.Parameters.{with_name};
 
 use indexmap::IndexMap;
+use sql_tokens::MOST_PARAMETERS;
 use sql_value::{Memory, read_digits};
 use std::alloc::Global;
 use std::marker::Model;
-
-/// The greatest number that stands behind `?`.
-const MOST_PARAMETERS: u64 = 32766;
 
 /// The parameters met so far in a statement. A name is found by one hash.
 ///
@@ -23,7 +21,7 @@ pub(crate) struct Parameters {
 
 impl Model for Parameters {
     ghost use Rattle.std.specs.Prelude.{map};
-    ghost use Rattle.sql_parse.specs.Parameters.{Met};
+    ghost use Rattle.sql_lexemes.specs.Parameters.{Met};
 
     ghost Value = { Met };
 
@@ -36,11 +34,7 @@ impl Model for Parameters {
 fn owned(alloc: Global, bytes: &[u8]) -> Result<Vec<u8>, Memory>
     ensures { IfOk result (λ copy. copy.items ≡ bytes.now) }
 {
-    let mut copy = Vec::new(alloc);
-    match copy.extend_from_slice(bytes) {
-        Ok(()) => Ok(copy),
-        Err(_) => Err(Memory),
-    }
+    Ok(Vec::from_slice(alloc, bytes)?)
 }
 
 impl Parameters {
@@ -88,9 +82,7 @@ impl Parameters {
         }) }
     {
         let key = owned(alloc, name)?;
-        let Ok(_) = self.named.insert(key, number) else {
-            return Err(Memory);
-        };
+        self.named.insert(key, number)?;
         Ok(())
     }
 

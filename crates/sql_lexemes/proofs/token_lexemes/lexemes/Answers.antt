@@ -1,11 +1,11 @@
 use Rattle.std.proofs.Common.{refl}
 use Rattle.sql_read.specs.Lexemes.{seen}
-use Rattle.sql_parse.proofs.TokenSteps.{goes_on}
-use Rattle.sql_parse.proofs.token_lexemes.lexemes.Goals as goal
+use Rattle.sql_lexemes.proofs.TokenSteps.{goes_on}
+use Rattle.sql_lexemes.proofs.token_lexemes.lexemes.Goals as goal
 
 pub loop-token-init : goal.loop-token-init
 unfolding seen
-loop-token-init c = rw (c.in-Ok.ensures.items, c.new-met.ensures) refl
+loop-token-init c = rw (c.in_ok-list.ensures.items, c.new-met.ensures) refl
 
 pub loop-token-preserved : goal.loop-token-preserved
 loop-token-preserved c =
