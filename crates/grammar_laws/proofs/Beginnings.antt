@@ -7,16 +7,14 @@ use Rattle.sql_value.specs.declared.keywords.Keyword.TheVariants as keyword
 use Rattle.sql_value.specs.Reserved.{is_reserved_word}
 use Rattle.sql_tokens.specs.declared.terminal.Terminal.{Terminal}
 use Rattle.sql_lex.specs.Looks.{is_keyword, is_keyword_among}
-use Rattle.sql_lex.specs.StatementPatterns.{fits_insert, fits_with, fits_values}
-use Rattle.sql_lex.specs.StatementPatterns.{fits_other_statement}
-use Rattle.sql_lex.specs.ClausePatterns.{fits_update_from, fits_update_or, fits_limit_on_change}
-use Rattle.sql_parse.specs.TokenLexemes.{keyword_mark}
-use Rattle.sql_lex.specs.Places.{place_of}
+use Rattle.sql_lex.specs.Patterns.{fits, fits_other_statement}
+use Rattle.sql_lex.specs.declared.constructs.Foreign.TheVariants as foreign
+use Rattle.sql_lexemes.specs.TokenLexemes.{keyword_mark}
 use Rattle.grammar_laws.proofs.Scan.{Class, Kind, Phase, may_come, phase_behind, begins}
 use Rattle.grammar_laws.proofs.Scan.{mark_class, keyword_class, terminal_class}
 use Rattle.grammar_laws.proofs.Scan as scan
 use Rattle.grammar_laws.proofs.Terminals.{keyword_is}
-use Rattle.grammar_laws.proofs.Places.{NeverAt, either, both, second_false, comes, seen, among_is}
+use Rattle.grammar_laws.proofs.Places.{Never, either, both, second_false, comes, seen, among_is}
 
 -- no statement begins so
 abbrev begins_none : Class → Bool
@@ -78,25 +76,25 @@ no_from scan.Begin bs e = cc
 no_from _ bs e = cc
 
 module _ (k : Kind) (u : Terminal) (h : begins k (terminal_class u) ≡ true) where
-  pub no_insert : NeverAt place_of k (Some u) fits_insert
-  unfolding fits_insert keyword_class keyword_mark is_reserved_word
+  pub no_insert : Never k (Some u) foreign.Insert
+  unfolding fits keyword_class keyword_mark is_reserved_word
   no_insert p bs before t ts b taken e =
       none_first k u (keyword.Insert ∷ keyword.Replace ∷ []) h refl e
 
-  pub no_with : NeverAt place_of k (Some u) fits_with
-  unfolding fits_with keyword_class keyword_mark is_reserved_word
+  pub no_with : Never k (Some u) foreign.With
+  unfolding fits keyword_class keyword_mark is_reserved_word
   no_with p bs before t ts b taken e =
       not_first k (keyword_class keyword.With) refl
       (subst (λ c. begins k c ≡ true) (keyword_is keyword.With u e) h)
 
-  pub no_values : NeverAt place_of k (Some u) fits_values
-  unfolding fits_values keyword_class keyword_mark is_reserved_word
+  pub no_values : Never k (Some u) foreign.Values
+  unfolding fits keyword_class keyword_mark is_reserved_word
   no_values p bs before t ts b taken e =
       not_first k (keyword_class keyword.Values) refl
       (subst (λ c. begins k c ≡ true) (keyword_is keyword.Values u e) h)
 
-  pub no_other_statement : NeverAt place_of k (Some u) fits_other_statement
-  unfolding fits_other_statement keyword_class keyword_mark is_reserved_word
+  pub no_other_statement : Never k (Some u) foreign.OtherStatement
+  unfolding fits fits_other_statement keyword_class keyword_mark is_reserved_word
   no_other_statement p bs before t ts b taken e =
       none_first k u
       (keyword.Create ∷ keyword.Drop ∷ keyword.Alter ∷ keyword.Pragma ∷ keyword.Begin
@@ -105,8 +103,8 @@ module _ (k : Kind) (u : Terminal) (h : begins k (terminal_class u) ≡ true) wh
       ∷ keyword.Explain ∷ [])
       h refl e
 
-  pub no_update_from : NeverAt place_of k (Some u) fits_update_from
-  unfolding fits_update_from keyword_class keyword_mark mark_class
+  pub no_update_from : Never k (Some u) foreign.UpdateFrom
+  unfolding fits keyword_class keyword_mark mark_class
   no_update_from p bs before t ts b taken e =
       let parts = both _ _ e in
       let change = changes k
@@ -115,8 +113,8 @@ module _ (k : Kind) (u : Terminal) (h : begins k (terminal_class u) ≡ true) wh
       (subst (λ j. may_come j p bs scan.From ≡ true) change
       (comes k p bs keyword.From t taken.0 parts.1))
 
-  pub no_limit_on_change : NeverAt place_of k (Some u) fits_limit_on_change
-  unfolding fits_limit_on_change keyword_class keyword_mark mark_class
+  pub no_limit_on_change : Never k (Some u) foreign.LimitOnChange
+  unfolding fits keyword_class keyword_mark mark_class
   no_limit_on_change p bs before t ts b taken e =
       let parts = both _ _ e in
       let tail = seen k p bs t ts scan.Tail
@@ -142,8 +140,8 @@ unfolding may_come
 unnamed k bs e = cc
 
 -- behind UPDATE stands a name
-pub no_update_or : (k : Kind) (first : Option Terminal) → NeverAt place_of k first fits_update_or
-unfolding fits_update_or keyword_class keyword_mark mark_class phase_behind is_keyword
+pub no_update_or : (k : Kind) (first : Option Terminal) → Never k first foreign.UpdateOr
+unfolding fits keyword_class keyword_mark mark_class phase_behind is_keyword
 no_update_or k first p bs before t [] b taken e =
     second_false (is_none before && is_keyword keyword.Update (Some t)) e
 no_update_or k first p bs before t (v ∷ ts) b taken e =

@@ -49,12 +49,7 @@ behind_mark k bs rest m e h = subst (λ c. RestBehind k bs rest c) (sym e) (behi
 op_class : {m : Mark} {o : Op} → IsOp m o → mark_class m ≡ scan.Word
 unfolding mark_class
 op_class g.eq = refl
-op_class g.eq_eq = refl
-op_class g.ne = refl
-op_class g.lt = refl
-op_class g.le = refl
-op_class g.gt = refl
-op_class g.ge = refl
+op_class _ = refl
 
 behind_null_test :
     (k : Kind) (bs : List Bool) {neg : Bool} {ms : List Lexeme} (rest : List Lexeme)
@@ -74,14 +69,26 @@ behind_null_test k bs rest g.notnull h _ scan.ended = (refl, h scan.Ended scan.e
 behind_null_test k bs rest g.not_null h _ scan.named = (refl, (refl, h scan.Ended scan.ended))
 behind_null_test k bs rest g.not_null h _ scan.ended = (refl, (refl, h scan.Ended scan.ended))
 
-behind_between :
-    (k : Kind) (bs : List Bool) (neg : Bool) (rest : List Lexeme) → Goes k scan.Anew bs rest
-    → Rest k bs (perhaps_not neg mark.Between ++ rest)
+pub before_word :
+    (k : Kind) (bs : List Bool) (rest : List Lexeme) (m : Mark) → mark_class m ≡ scan.Word
+    → Goes k scan.Anew bs rest → Goes k scan.Anew bs (lexeme.Fixed m ∷ rest)
+unfolding lexeme_class may_come phase_behind stack_behind
+before_word k bs rest m e h = rw e (refl, h)
+
+behind_not :
+    (k : Kind) (bs : List Bool) (rest : List Lexeme) → Goes k scan.Anew bs rest
+    → Rest k bs (lexeme.Fixed mark.Not ∷ rest)
 unfolding lexeme_class mark_class may_come phase_behind stack_behind
-behind_between k bs false rest h _ scan.named = (refl, h)
-behind_between k bs false rest h _ scan.ended = (refl, h)
-behind_between k bs true rest h _ scan.named = (refl, (refl, h))
-behind_between k bs true rest h _ scan.ended = (refl, (refl, h))
+behind_not k bs rest h _ scan.named = (refl, h)
+behind_not k bs rest h _ scan.ended = (refl, h)
+
+-- BETWEEN or LIKE, behind NOT or not
+behind_test :
+    (k : Kind) (bs : List Bool) (neg : Bool) (m : Mark) (rest : List Lexeme)
+    → mark_class m ≡ scan.Word → Goes k scan.Anew bs rest → Rest k bs (perhaps_not neg m ++ rest)
+behind_test k bs false m rest e h = behind_mark k bs rest m e h
+behind_test k bs true m rest e h =
+    behind_not k bs (lexeme.Fixed m ∷ rest) (before_word k bs rest m e h)
 
 behind_in :
     (k : Kind) (bs : List Bool) (neg : Bool) (rest : List Lexeme)
@@ -199,9 +206,16 @@ mutual
       let whole : ts ++ rest ≡ fs ++ (ms ++ tail) =
       parts ts fs (ms ++ inside) rest e ∙ ap (λ r. fs ++ r) (append_assoc ms inside rest
       ∙ ap (λ r. ms ++ r) (append_assoc cs (lexeme.Fixed mark.And ∷ ds) rest)) in
-      rw whole (expression s k bs (ms ++ tail) (behind_between k bs neg tail
+      rw whole (expression s k bs (ms ++ tail) (behind_test k bs neg mark.Between tail refl
       (expression t k bs (lexeme.Fixed mark.And ∷ (ds ++ rest)) (parts_and k bs (ds ++ rest)
       (expression u k bs rest h)) scan.Anew scan.anew)) p b)
+  expression (g.like {ts} {fs} {bs = cs} neg s t e) k bs rest h p b =
+      let ms = perhaps_not neg mark.Like in
+      let whole : ts ++ rest ≡ fs ++ (ms ++ (cs ++ rest)) =
+      parts ts fs (ms ++ cs) rest e ∙ ap (λ r. fs ++ r) (append_assoc ms cs rest) in
+      rw whole (expression s k bs (ms ++ (cs ++ rest))
+      (behind_test k bs neg mark.Like (cs ++ rest) refl
+      (expression t k bs rest h scan.Anew scan.anew)) p b)
   expression (g.in_none {ts} {fs} neg s e) k bs rest h p b =
       let ms = perhaps_not neg mark.In in
       let inside : List Lexeme = lexeme.Fixed mark.Open ∷ lexeme.Fixed mark.Close ∷ [] in

@@ -12,10 +12,10 @@ use Rattle.sql_lex.specs.Patterns.{lacks_from}
 use Rattle.sql_read.specs.declared.lexeme.Mark.TheVariants as mark
 use Rattle.sql_read.specs.Lexemes.{Lexeme}
 use Rattle.sql_read.specs.Lexemes as lexeme
-use Rattle.sql_parse.specs.Parameters.{Met}
+use Rattle.sql_lexemes.specs.Parameters.{Met}
 use Rattle.sql_parse.specs.Statements.{IsSpelled}
 use Rattle.sql_parse.specs.Statements as s
-use Rattle.sql_parse.specs.TokenLexemes.{keyword_mark, lexeme_at, met_after, lexemes_from}
+use Rattle.sql_lexemes.specs.TokenLexemes.{keyword_mark, lexeme_at, met_after, lexemes_from}
 use Rattle.grammar_laws.proofs.Scan.{Class, mark_class, lexeme_class, keyword_class}
 use Rattle.grammar_laws.proofs.Scan as scan
 use Rattle.grammar_laws.proofs.Terminals.{keyword_is, same_class, means, class_means}

@@ -144,12 +144,7 @@ quiet (m ∷ ms) e =
 
 op_mark : {m : Mark} {o : Op} → IsOp m o → (is_bare m ≡ true) × Quiet (m ∷ [])
 op_mark g.eq = (refl, (refl, refl))
-op_mark g.eq_eq = (refl, (refl, refl))
-op_mark g.ne = (refl, (refl, refl))
-op_mark g.lt = (refl, (refl, refl))
-op_mark g.le = (refl, (refl, refl))
-op_mark g.gt = (refl, (refl, refl))
-op_mark g.ge = (refl, (refl, refl))
+op_mark _ = (refl, (refl, refl))
 
 abbrev QuietShape : List Lexeme → Type 0
 QuietShape ts = (s : Shape ts) × Quiet s.marks
@@ -165,10 +160,14 @@ null_test g.is_not_null = (
 null_test g.notnull = (one_mark mark.Notnull refl, (refl, refl))
 null_test g.not_null = (beside (one_mark mark.Not refl) (one_mark mark.Null refl), (refl, refl))
 
-in_marks : (neg : Bool) → QuietShape (perhaps_not neg mark.In)
+word_marks :
+    (neg : Bool) (m : Mark) → is_bare m ≡ true → Quiet (m ∷ []) → QuietShape (perhaps_not neg m)
 unfolding beside one_mark
-in_marks false = (one_mark mark.In refl, (refl, refl))
-in_marks true = (beside (one_mark mark.Not refl) (one_mark mark.In refl), (refl, refl))
+word_marks false m b q = (one_mark m b, q)
+word_marks true m b q = (
+  beside (one_mark mark.Not refl) (one_mark m b),
+  quiet_beside (mark.Not ∷ []) (m ∷ []) (refl, refl) q,
+)
 
 between_marks :
     (neg : Bool)
@@ -266,12 +265,16 @@ mutual
           inr (ranges a.0.marks n.0.marks b.0.marks c.0.marks a.1.1 n.2 b.1.1 c.1.1),
         ),
       )
+  level (g.like neg s t e) =
+      along g.test e (as_test (quiet_two (as_quiet (level s))
+      (quiet_two (word_marks neg mark.Like refl (refl, refl)) (as_quiet (level t)))))
   level (g.in_none neg s e) =
       along g.test e (as_test (quiet_two (as_quiet (level s))
-      (quiet_two (in_marks neg) (enclosed nothing, (refl, refl)))))
+      (quiet_two (word_marks neg mark.In refl (refl, refl)) (enclosed nothing, (refl, refl)))))
   level (g.in_some neg s t e) =
       along g.test e (as_test (quiet_two (as_quiet (level s))
-      (quiet_two (in_marks neg) (enclosed (members t refl).0, (refl, refl)))))
+      (quiet_two (word_marks neg mark.In refl (refl, refl))
+      (enclosed (members t refl).0, (refl, refl)))))
   level (g.plus s) = let o = level s in (beside (one_mark mark.Plus refl) o.0, o.1)
   level (g.simple s) = level s
   level (g.collated c d s e) =

@@ -7,17 +7,16 @@ use Rattle.sql_tokens.specs.declared.symbols.Symbol.TheVariants as symbol
 use Rattle.sql_tokens.specs.declared.terminal.Terminal.{Terminal}
 use Rattle.sql_lex.specs.Looks.{is_keyword, is_symbol, is_keyword_among}
 use Rattle.sql_lex.specs.Looks.{is_free_word}
-use Rattle.sql_lex.specs.ExpressionPatterns.{fits_subquery, fits_window, fits_cast}
-use Rattle.sql_lex.specs.OperatorPatterns.{fits_function, fits_distinct, fits_is}
-use Rattle.sql_parse.specs.TokenLexemes.{keyword_mark, symbol_mark}
-use Rattle.sql_lex.specs.Places.{place_of}
+use Rattle.sql_lex.specs.Patterns.{fits, fits_subquery, fits_window_function, fits_is}
+use Rattle.sql_lex.specs.declared.constructs.Foreign.TheVariants as foreign
+use Rattle.sql_lexemes.specs.TokenLexemes.{keyword_mark, symbol_mark}
 use Rattle.grammar_laws.proofs.Scan.{Class, Kind, Phase, may_come, phase_behind, stack_behind}
 use Rattle.grammar_laws.proofs.Scan.{mark_class, keyword_class, symbol_class, terminal_class}
 use Rattle.grammar_laws.proofs.Scan as scan
 use Rattle.grammar_laws.proofs.Terminals.{keyword_is, symbol_is, free_word_is}
 use Rattle.grammar_laws.proofs.Terminals.{means, class_means}
 use Rattle.grammar_laws.proofs.Places.{both_true}
-use Rattle.grammar_laws.proofs.Places.{NeverAt, Taken, either, both, second_false, false_true, isnt}
+use Rattle.grammar_laws.proofs.Places.{Never, Taken, either, both, second_false, false_true, isnt}
 use Rattle.grammar_laws.proofs.Places.{comes, seen, among_is}
 use Rattle.grammar_laws.proofs.Places.{no_word, no_words}
 
@@ -37,13 +36,20 @@ not_ended_is_not b = elim b [ ]
 
 -- no parenthesis behind a name
 
+pub behind_name :
+    (k : Kind) (p : Phase) (bs : List Bool) (c : Class)
+    → (may_come k scan.Named bs c ≡ true → ⊥) → (may_come k scan.Ended bs c ≡ true → ⊥)
+    → may_come k (phase_behind p scan.Name) bs c ≡ true → ⊥
+unfolding phase_behind
+behind_name k scan.Fresh bs c named ended = named
+behind_name k scan.Anew bs c named ended = named
+behind_name k _ bs c named ended = ended
+
 uncalled :
     (k : Kind) (p : Phase) (bs : List Bool)
     → may_come k (phase_behind p scan.Name) bs scan.Open ≡ true → ⊥
-unfolding may_come phase_behind
-uncalled k scan.Fresh bs e = cc
-uncalled k scan.Anew bs e = cc
-uncalled k _ bs e = cc
+unfolding may_come
+uncalled k p bs = behind_name k p bs scan.Open false_true false_true
 
 no_call :
     (k : Kind) (p : Phase) (bs : List Bool) (t u : Terminal) (ts : List Terminal)
@@ -54,36 +60,36 @@ no_call k p bs t u ts e h there =
     let rest = seen k p bs t (u ∷ ts) scan.Name e h in
     uncalled k p _ (seen k _ _ u ts scan.Open (symbol_is symbol.OpenParenthesis u there) rest.1).0
 
-pub no_function : (k : Kind) (first : Option Terminal) → NeverAt place_of k first fits_function
-unfolding fits_function is_symbol
+pub no_function : (k : Kind) (first : Option Terminal) → Never k first foreign.Function
+unfolding fits is_symbol
 no_function k first p bs before t [] b h e = second_false (is_free_word (Some t)) e
 no_function k first p bs before t (u ∷ ts) b h e =
     let w = both (is_free_word (Some t)) (is_symbol symbol.OpenParenthesis (Some u)) e in
     no_call k p bs t u ts (free_word_is t w.0) h w.1
 
-pub no_cast : (k : Kind) (first : Option Terminal) → NeverAt place_of k first fits_cast
-unfolding fits_cast is_symbol keyword_class keyword_mark is_reserved_word
+pub no_cast : (k : Kind) (first : Option Terminal) → Never k first foreign.Cast
+unfolding fits is_symbol keyword_class keyword_mark is_reserved_word
 no_cast k first p bs before t [] b h e = second_false (is_keyword keyword.Cast (Some t)) e
 no_cast k first p bs before t (u ∷ ts) b h e =
     let w = both (is_keyword keyword.Cast (Some t)) (is_symbol symbol.OpenParenthesis (Some u)) e in
     no_call k p bs t u ts (keyword_is keyword.Cast t w.0) h w.1
 
-pub no_window : (k : Kind) (first : Option Terminal) → NeverAt place_of k first fits_window
-unfolding fits_window is_symbol is_keyword keyword_class keyword_mark is_reserved_word
-no_window k first p bs before t [] b h e =
+pub no_window_function : (k : Kind) (first : Option Terminal) → Never k first foreign.WindowFunction
+unfolding fits fits_window_function is_symbol is_keyword keyword_class keyword_mark is_reserved_word
+no_window_function k first p bs before t [] b h e =
     elim (either (is_keyword keyword.Window (Some t))
     (is_symbol symbol.CloseParenthesis (Some t) && false && false) e) [
       | inl w ↦ no_word k p bs keyword.Window t refl h.0 w
       | inr w ↦ second_false (is_symbol symbol.CloseParenthesis (Some t) && false) w
     ]
-no_window k first p bs before t (u ∷ []) b h e =
+no_window_function k first p bs before t (u ∷ []) b h e =
     let over = is_keyword_among (keyword.Over ∷ keyword.Filter ∷ []) (Some u) in
     elim (either (is_keyword keyword.Window (Some t))
     (is_symbol symbol.CloseParenthesis (Some t) && over && false) e) [
       | inl w ↦ no_word k p bs keyword.Window t refl h.0 w
       | inr w ↦ second_false (is_symbol symbol.CloseParenthesis (Some t) && over) w
     ]
-no_window k first p bs before t (u ∷ v ∷ ts) b h e =
+no_window_function k first p bs before t (u ∷ v ∷ ts) b h e =
     let over = is_keyword_among (keyword.Over ∷ keyword.Filter ∷ []) (Some u) in
     let behind = is_symbol symbol.OpenParenthesis (Some v) in
     elim (either (is_keyword keyword.Window (Some t))
@@ -137,8 +143,8 @@ listed_in k p bs t (u ∷ us) there h =
     let rest = seen k p bs t (u ∷ us) scan.In (keyword_is keyword.In t there) h in
     (u, us, refl, is_such scan.Open u (open_is (terminal_class u) rest.1.0))
 
-pub no_subquery : (k : Kind) (first : Option Terminal) → NeverAt place_of k first fits_subquery
-unfolding fits_subquery is_symbol is_keyword keyword_class keyword_mark is_reserved_word
+pub no_subquery : (k : Kind) (first : Option Terminal) → Never k first foreign.Subquery
+unfolding fits fits_subquery is_symbol is_keyword keyword_class keyword_mark is_reserved_word
 no_subquery k first p bs before t [] b h e =
     let inside = is_symbol symbol.OpenParenthesis (Some t) && false in
     let exists = is_keyword keyword.Exists (Some t) in
@@ -172,8 +178,8 @@ no_subquery k first p bs before t (u ∷ us) b h e =
           (subst (λ v. is_symbol symbol.OpenParenthesis (Some v) ≡ true) (sym same) there.3)
     ]
 
-pub no_distinct : (k : Kind) (first : Option Terminal) → NeverAt place_of k first fits_distinct
-unfolding fits_distinct is_keyword keyword_class keyword_mark is_reserved_word
+pub no_distinct : (k : Kind) (first : Option Terminal) → Never k first foreign.Distinct
+unfolding fits is_keyword keyword_class keyword_mark is_reserved_word
 no_distinct k first p bs before t [] b h e = second_false (is_keyword keyword.Select (Some t)) e
 no_distinct k first p bs before t (u ∷ us) b h e =
     no_word k _ _ keyword.Distinct u refl h.1.0
@@ -193,8 +199,8 @@ not_null true b e = cc
 not_null false true e = cc
 not_null false false e = (false_true, false_true)
 
-pub no_is : (k : Kind) (first : Option Terminal) → NeverAt place_of k first fits_is
-unfolding fits_is keyword_class keyword_mark mark_class phase_behind may_come
+pub no_is : (k : Kind) (first : Option Terminal) → Never k first foreign.Is
+unfolding fits fits_is keyword_class keyword_mark mark_class phase_behind may_come
 no_is k first p bs before t [] b h e =
     let there = keyword_is keyword.Is t (both (is_keyword keyword.Is (Some t)) _ e).0 in
     not_ended_is (seen k p bs t [] scan.Is there h).1

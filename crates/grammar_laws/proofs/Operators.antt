@@ -6,17 +6,17 @@ use Rattle.sql_tokens.specs.declared.symbols.Symbol.TheVariants as symbol
 use Rattle.sql_tokens.specs.declared.terminal.Terminal.{Terminal}
 use Rattle.sql_lex.specs.Looks.{is_keyword, is_symbol, is_keyword_among, is_symbol_among, is_number}
 use Rattle.sql_lex.specs.Looks.{is_name, is_free_word, is_literal, is_operand_end}
-use Rattle.sql_lex.specs.OperatorPatterns.{fits_arithmetic}
-use Rattle.sql_lex.specs.Places.{place_of}
-use Rattle.sql_parse.specs.TokenLexemes.{symbol_mark}
+use Rattle.sql_lex.specs.Patterns.{fits, fits_arithmetic}
+use Rattle.sql_lex.specs.declared.constructs.Foreign.TheVariants as foreign
+use Rattle.sql_lexemes.specs.TokenLexemes.{symbol_mark}
 use Rattle.grammar_laws.proofs.Scan.{Class, Kind, Phase, may_come, phase_behind}
 use Rattle.grammar_laws.proofs.Scan.{mark_class, symbol_class, terminal_class}
 use Rattle.grammar_laws.proofs.Scan as scan
 use Rattle.grammar_laws.proofs.Terminals.{symbol_is, operand_end_is, ends, means, class_means}
 use Rattle.grammar_laws.proofs.Places.{or_left, or_right}
-use Rattle.grammar_laws.proofs.Places.{NeverAt, Taken, Behind, either, both, isnt, seen, no_symbols}
+use Rattle.grammar_laws.proofs.Places.{Never, Taken, Behind, either, both, isnt, seen, no_symbols}
 use Rattle.grammar_laws.proofs.Places.{false_true}
-use Rattle.grammar_laws.proofs.Neighbours.{is_such}
+use Rattle.grammar_laws.proofs.Neighbours.{behind_name, is_such}
 
 -- The terminals before which a `*` stands.
 
@@ -30,10 +30,8 @@ precedes_star _ = false
 no_star_behind_name :
     (k : Kind) (q : Phase) (bs : List Bool)
     → may_come k (phase_behind q scan.Name) bs scan.Star ≡ true → ⊥
-unfolding may_come phase_behind
-no_star_behind_name k scan.Fresh bs e = cc
-no_star_behind_name k scan.Anew bs e = cc
-no_star_behind_name k _ bs e = cc
+unfolding may_come
+no_star_behind_name k q bs = behind_name k q bs scan.Star false_true false_true
 
 no_star_behind_not :
     (k : Kind) (q : Phase) (bs : List Bool)
@@ -213,7 +211,7 @@ stray k p bs before t ts b h e =
       ]
     ]
 
-pub no_arithmetic : (k : Kind) (first : Option Terminal) → NeverAt place_of k first fits_arithmetic
-unfolding fits_arithmetic
+pub no_arithmetic : (k : Kind) (first : Option Terminal) → Never k first foreign.Arithmetic
+unfolding fits fits_arithmetic
 no_arithmetic k first p bs before t [] b h e = stray k p bs before t [] b h e
 no_arithmetic k first p bs before t (u ∷ us) b h e = stray k p bs before t (u ∷ us) b h e

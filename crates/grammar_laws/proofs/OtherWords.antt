@@ -1,104 +1,86 @@
--- Patterns of words and symbols that the grammar hasn't at all.
-use Rattle.std.proofs.Common.{Option, [], ◌∷◌, refl}
+-- Constructs by words and symbols that the grammar hasn't at all.
+use Rattle.std.proofs.Common.{◌≡◌, Bool, true, false, Option, List, [], ◌∷◌, refl}
+use Rattle.sql_value.specs.declared.keywords.Keyword.{Keyword}
 use Rattle.sql_value.specs.declared.keywords.Keyword.TheVariants as keyword
 use Rattle.sql_value.specs.Reserved.{is_reserved_word}
+use Rattle.sql_tokens.specs.declared.symbols.Symbol.{Symbol}
 use Rattle.sql_tokens.specs.declared.symbols.Symbol.TheVariants as symbol
 use Rattle.sql_tokens.specs.declared.terminal.Terminal.{Terminal}
-use Rattle.sql_lex.specs.ExpressionPatterns.{fits_compound, fits_case, fits_like, fits_glob}
-use Rattle.sql_lex.specs.ExpressionPatterns.{fits_regexp}
-use Rattle.sql_lex.specs.ExpressionPatterns.{fits_match, fits_current_time}
-use Rattle.sql_lex.specs.OperatorPatterns.{fits_group_by, fits_concatenation, fits_bit_operator}
-use Rattle.sql_lex.specs.OperatorPatterns.{fits_json_operator}
-use Rattle.sql_lex.specs.JoinPatterns.{fits_right_join, fits_full_join, fits_natural_join}
-use Rattle.sql_lex.specs.JoinPatterns.{fits_left_join, fits_using}
-use Rattle.sql_lex.specs.ClausePatterns.{fits_indexed_by, fits_returning, fits_nulls}
-use Rattle.sql_parse.specs.TokenLexemes.{keyword_mark, symbol_mark}
-use Rattle.sql_lex.specs.Places.{place_of}
+use Rattle.sql_lex.specs.Looks.{is_keyword, is_keyword_among, is_symbol_among}
+use Rattle.sql_lex.specs.Patterns.{fits}
+use Rattle.sql_lex.specs.Contexts.{context_of}
+use Rattle.sql_lex.specs.declared.constructs.Foreign.{Foreign}
+use Rattle.sql_lex.specs.declared.constructs.Foreign.TheVariants as foreign
+use Rattle.sql_lexemes.specs.TokenLexemes.{keyword_mark, symbol_mark}
 use Rattle.grammar_laws.proofs.Scan.{Kind, keyword_class, symbol_class}
-use Rattle.grammar_laws.proofs.Places.{NeverAt, no_word, no_words, no_symbol, no_symbols}
+use Rattle.grammar_laws.proofs.Scan as scan
+use Rattle.grammar_laws.proofs.Places.{Never, NeverAt, HaveClass}
+use Rattle.grammar_laws.proofs.Places.{no_word, no_words, no_symbol, no_symbols}
+
+abbrev pub is_other_word : Foreign → Bool
+is_other_word foreign.CompoundSelect = true
+is_other_word foreign.Case = true
+is_other_word foreign.LikeEscape = true
+is_other_word foreign.Glob = true
+is_other_word foreign.Regexp = true
+is_other_word foreign.Match = true
+is_other_word foreign.CurrentTime = true
+is_other_word foreign.GroupBy = true
+is_other_word foreign.Concatenation = true
+is_other_word foreign.BitOperator = true
+is_other_word foreign.JsonOperator = true
+is_other_word foreign.RightJoin = true
+is_other_word foreign.FullJoin = true
+is_other_word foreign.NaturalJoin = true
+is_other_word foreign.Using = true
+is_other_word foreign.IndexedBy = true
+is_other_word foreign.Returning = true
+is_other_word foreign.NullsFirstOrLast = true
+is_other_word _ = false
 
 module _ (k : Kind) (first : Option Terminal) where
-  pub no_compound : NeverAt place_of k first fits_compound
-  unfolding fits_compound keyword_class keyword_mark is_reserved_word
-  no_compound p bs before t ts b h e =
-      no_words k p bs (keyword.Union ∷ keyword.Intersect ∷ keyword.Except ∷ []) t
-      (refl, (refl, (refl, tt))) h.0 e
+  word :
+      (w : Keyword) → keyword_class w ≡ scan.Other
+      → NeverAt context_of k first (λ context. is_keyword w context.here)
+  word w other p bs before t ts b h e = no_word k p bs w t other h.0 e
 
-  pub no_case : NeverAt place_of k first fits_case
-  unfolding fits_case keyword_class keyword_mark is_reserved_word
-  no_case p bs before t ts b h e = no_word k p bs keyword.Case t refl h.0 e
+  words :
+      (ws : List Keyword) → HaveClass keyword_class scan.Other ws
+      → NeverAt context_of k first (λ context. is_keyword_among ws context.here)
+  words ws others p bs before t ts b h e = no_words k p bs ws t others h.0 e
 
-  pub no_like : NeverAt place_of k first fits_like
-  unfolding fits_like keyword_class keyword_mark is_reserved_word
-  no_like p bs before t ts b h e = no_word k p bs keyword.Like t refl h.0 e
+  symbols :
+      (ss : List Symbol) → HaveClass symbol_class scan.Other ss
+      → NeverAt context_of k first (λ context. is_symbol_among ss context.here)
+  symbols ss others p bs before t ts b h e = no_symbols k p bs ss t others h.0 e
 
-  pub no_glob : NeverAt place_of k first fits_glob
-  unfolding fits_glob keyword_class keyword_mark is_reserved_word
-  no_glob p bs before t ts b h e = no_word k p bs keyword.Glob t refl h.0 e
-
-  pub no_regexp : NeverAt place_of k first fits_regexp
-  unfolding fits_regexp keyword_class keyword_mark is_reserved_word
-  no_regexp p bs before t ts b h e = no_word k p bs keyword.Regexp t refl h.0 e
-
-  pub no_match : NeverAt place_of k first fits_match
-  unfolding fits_match keyword_class keyword_mark is_reserved_word
-  no_match p bs before t ts b h e = no_word k p bs keyword.Match t refl h.0 e
-
-  pub no_current_time : NeverAt place_of k first fits_current_time
-  unfolding fits_current_time keyword_class keyword_mark is_reserved_word
-  no_current_time p bs before t ts b h e =
-      no_words k p bs (keyword.CurrentDate ∷ keyword.CurrentTime ∷ keyword.CurrentTimestamp ∷ []) t
-      (refl, (refl, (refl, tt))) h.0 e
-
-  pub no_group_by : NeverAt place_of k first fits_group_by
-  unfolding fits_group_by keyword_class keyword_mark is_reserved_word
-  no_group_by p bs before t ts b h e =
-      no_words k p bs (keyword.Group ∷ keyword.Having ∷ []) t (refl, (refl, tt)) h.0 e
-
-  pub no_concatenation : NeverAt place_of k first fits_concatenation
-  unfolding fits_concatenation symbol_class symbol_mark
-  no_concatenation p bs before t ts b h e = no_symbol k p bs symbol.Concatenation t refl h.0 e
-
-  pub no_bit_operator : NeverAt place_of k first fits_bit_operator
-  unfolding fits_bit_operator symbol_class symbol_mark
-  no_bit_operator p bs before t ts b h e =
-      no_symbols k p bs
-      (symbol.BitOr ∷ symbol.BitAnd ∷ symbol.ShiftLeft ∷ symbol.ShiftRight ∷ symbol.BitNot ∷ []) t
-      (refl, (refl, (refl, (refl, (refl, tt))))) h.0 e
-
-  pub no_json_operator : NeverAt place_of k first fits_json_operator
-  unfolding fits_json_operator symbol_class symbol_mark
-  no_json_operator p bs before t ts b h e =
-      no_symbols k p bs (symbol.Arrow ∷ symbol.LongArrow ∷ []) t (refl, (refl, tt)) h.0 e
-
-  pub no_right_join : NeverAt place_of k first fits_right_join
-  unfolding fits_right_join keyword_class keyword_mark is_reserved_word
-  no_right_join p bs before t ts b h e = no_word k p bs keyword.Right t refl h.0 e
-
-  pub no_full_join : NeverAt place_of k first fits_full_join
-  unfolding fits_full_join keyword_class keyword_mark is_reserved_word
-  no_full_join p bs before t ts b h e = no_word k p bs keyword.Full t refl h.0 e
-
-  pub no_natural_join : NeverAt place_of k first fits_natural_join
-  unfolding fits_natural_join keyword_class keyword_mark is_reserved_word
-  no_natural_join p bs before t ts b h e = no_word k p bs keyword.Natural t refl h.0 e
-
-  pub no_left_join : NeverAt place_of k first fits_left_join
-  unfolding fits_left_join keyword_class keyword_mark is_reserved_word
-  no_left_join p bs before t ts b h e = no_word k p bs keyword.Left t refl h.0 e
-
-  pub no_using : NeverAt place_of k first fits_using
-  unfolding fits_using keyword_class keyword_mark is_reserved_word
-  no_using p bs before t ts b h e = no_word k p bs keyword.Using t refl h.0 e
-
-  pub no_indexed_by : NeverAt place_of k first fits_indexed_by
-  unfolding fits_indexed_by keyword_class keyword_mark is_reserved_word
-  no_indexed_by p bs before t ts b h e = no_word k p bs keyword.Indexed t refl h.0 e
-
-  pub no_returning : NeverAt place_of k first fits_returning
-  unfolding fits_returning keyword_class keyword_mark is_reserved_word
-  no_returning p bs before t ts b h e = no_word k p bs keyword.Returning t refl h.0 e
-
-  pub no_nulls : NeverAt place_of k first fits_nulls
-  unfolding fits_nulls keyword_class keyword_mark is_reserved_word
-  no_nulls p bs before t ts b h e = no_word k p bs keyword.Nulls t refl h.0 e
+  pub no_other_word : (f : Foreign) → is_other_word f ≡ true → Never k first f
+  unfolding fits keyword_class keyword_mark is_reserved_word symbol_class symbol_mark
+  no_other_word foreign.CompoundSelect o =
+      words (keyword.Union ∷ keyword.Intersect ∷ keyword.Except ∷ []) (refl, (refl, (refl, tt)))
+  no_other_word foreign.Case o = word keyword.Case refl
+  no_other_word foreign.LikeEscape o = word keyword.Escape refl
+  no_other_word foreign.Glob o = word keyword.Glob refl
+  no_other_word foreign.Regexp o = word keyword.Regexp refl
+  no_other_word foreign.Match o = word keyword.Match refl
+  no_other_word foreign.CurrentTime o =
+      words (keyword.CurrentDate ∷ keyword.CurrentTime ∷ keyword.CurrentTimestamp ∷ [])
+      (refl, (refl, (refl, tt)))
+  no_other_word foreign.GroupBy o =
+      words (keyword.Group ∷ keyword.Having ∷ []) (refl, (refl, tt))
+  no_other_word foreign.Concatenation o =
+      λ p bs before t ts b h e. no_symbol k p bs symbol.Concatenation t refl h.0 e
+  no_other_word foreign.BitOperator o =
+      symbols
+      (symbol.BitOr ∷ symbol.BitAnd ∷ symbol.ShiftLeft ∷ symbol.ShiftRight ∷ symbol.BitNot ∷ [])
+      (refl, (refl, (refl, (refl, (refl, tt)))))
+  no_other_word foreign.JsonOperator o =
+      symbols (symbol.Arrow ∷ symbol.LongArrow ∷ []) (refl, (refl, tt))
+  no_other_word foreign.RightJoin o = word keyword.Right refl
+  no_other_word foreign.FullJoin o = word keyword.Full refl
+  no_other_word foreign.NaturalJoin o = word keyword.Natural refl
+  no_other_word foreign.Using o = word keyword.Using refl
+  no_other_word foreign.IndexedBy o = word keyword.Indexed refl
+  no_other_word foreign.Returning o = word keyword.Returning refl
+  no_other_word foreign.NullsFirstOrLast o = word keyword.Nulls refl
+  no_other_word _ o = cc o

@@ -1,11 +1,14 @@
 -- Tests of places that hold nowhere in a statement that the scan takes.
 use Rattle.std.proofs.Common.{◌≡◌, Bool, true, false, not, ◌&&◌, ◌||◌, ◌⊎◌, inl, inr, Option, None}
 use Rattle.std.proofs.Common.{Some, List, [], ◌∷◌, refl, ◌∙◌, subst}
+use Rattle.std.specs.List.{list_any}
 use Rattle.sql_value.specs.declared.keywords.Keyword.{Keyword}
 use Rattle.sql_tokens.specs.declared.symbols.Symbol.{Symbol}
 use Rattle.sql_tokens.specs.declared.terminal.Terminal.{Terminal}
 use Rattle.sql_lex.specs.Looks.{is_keyword, is_symbol, is_keyword_among, is_symbol_among}
-use Rattle.sql_lex.specs.Places.{place_of, fits_in}
+use Rattle.sql_lex.specs.Patterns.{fits}
+use Rattle.sql_lex.specs.Contexts.{context_of, fits_in}
+use Rattle.sql_lex.specs.declared.constructs.Foreign.{Foreign}
 use Rattle.grammar_laws.proofs.Scan.{Class, Kind, Phase, Takes, may_come, phase_behind}
 use Rattle.grammar_laws.proofs.Scan.{stack_behind}
 use Rattle.grammar_laws.proofs.Scan.{keyword_class, symbol_class, terminal_class}
@@ -60,12 +63,16 @@ Behind p (Some t) = (q : Phase) × (p ≡ phase_behind q (terminal_class t))
 abbrev pub NeverAt :
     {P : Type 0} → (Option Terminal → Option Terminal → List Terminal → P) → Kind → Option Terminal
     → (P → Bool) → Type 0
-NeverAt place k first test =
+NeverAt context k first test =
     (p : Phase) (bs : List Bool) (before : Option Terminal) (t : Terminal) (ts : List Terminal)
-    → Behind p before → Taken k p bs (t ∷ ts) → test (place first before (t ∷ ts)) ≡ true → ⊥
+    → Behind p before → Taken k p bs (t ∷ ts) → test (context first before (t ∷ ts)) ≡ true → ⊥
+
+-- a construct stands at no place of a statement that begins so
+abbrev pub Never : Kind → Option Terminal → Foreign → Type 0
+Never k first f = NeverAt context_of k first (fits f)
 
 fits_nowhere :
-    (k : Kind) (first : Option Terminal) (test : _) → NeverAt place_of k first test
+    (k : Kind) (first : Option Terminal) (test : _) → NeverAt context_of k first test
     → (p : Phase) (bs : List Bool) (before : Option Terminal) (ts : List Terminal)
     → Behind p before → Taken k p bs ts → fits_in first before ts test ≡ false
 fits_nowhere k first test never p bs before [] b h = refl
@@ -76,9 +83,32 @@ fits_nowhere k first test never p bs before (t ∷ ts) b h =
     (p, refl) h.1)
 
 pub nowhere :
-    (k : Kind) (first : Option Terminal) (test : _) → NeverAt place_of k first test
+    (k : Kind) (first : Option Terminal) (test : _) → NeverAt context_of k first test
     → (ts : List Terminal) → Taken k scan.Begin [] ts → fits_in first None ts test ≡ false
 nowhere k first test never ts h = fits_nowhere k first test never scan.Begin [] None ts refl h
+
+-- all of these have this class
+abbrev pub HaveClass : {X : Type 0} → (X → Class) → Class → List X → Type 0
+HaveClass class c [] = Unit {0}
+HaveClass class c (x ∷ xs) = (class x ≡ c) × HaveClass class c xs
+
+one_is :
+    {X : Type 0} (class : X → Class) (stands : X → Option Terminal → Bool)
+    → ((x : X) (t : Terminal) → stands x (Some t) ≡ true → terminal_class t ≡ class x) → (c : Class)
+    (xs : List X) (t : Terminal) → HaveClass class c xs
+    → list_any (λ x. stands x (Some t)) xs ≡ true → terminal_class t ≡ c
+one_is class stands is c [] t have e = cc
+one_is class stands is c (x ∷ xs) t have e =
+    elim (either (stands x (Some t)) _ e) [
+      | inl one ↦ is x t one ∙ have.0
+      | inr more ↦ one_is class stands is c xs t have.1 more
+    ]
+
+-- one of these words stands there, and all have this class
+pub among_is :
+    (c : Class) (ws : List Keyword) (t : Terminal) → HaveClass keyword_class c ws
+    → is_keyword_among ws (Some t) ≡ true → terminal_class t ≡ c
+among_is = one_is keyword_class is_keyword keyword_is
 
 -- a word of this class comes there
 pub comes :
@@ -87,66 +117,39 @@ pub comes :
     → may_come k p bs (keyword_class w) ≡ true
 comes k p bs w t h e = subst (λ c. may_come k p bs c ≡ true) (keyword_is w t e) h
 
--- a word that the grammar hasn't
+-- what the grammar hasn't
+absent :
+    (k : Kind) (p : Phase) (bs : List Bool) (t : Terminal) → terminal_class t ≡ scan.Other
+    → may_come k p bs (terminal_class t) ≡ true → ⊥
+absent k p bs t other h = no_other k p bs (subst (λ c. may_come k p bs c ≡ true) other h)
+
 pub no_word :
     (k : Kind) (p : Phase) (bs : List Bool) (w : Keyword) (t : Terminal)
     → keyword_class w ≡ scan.Other
     → may_come k p bs (terminal_class t) ≡ true → is_keyword w (Some t) ≡ true → ⊥
-no_word k p bs w t other h e =
-    no_other k p bs (subst (λ c. may_come k p bs c ≡ true) other (comes k p bs w t h e))
+no_word k p bs w t other h e = absent k p bs t (keyword_is w t e ∙ other) h
+
+pub no_words :
+    (k : Kind) (p : Phase) (bs : List Bool) (ws : List Keyword) (t : Terminal)
+    → HaveClass keyword_class scan.Other ws
+    → may_come k p bs (terminal_class t) ≡ true → is_keyword_among ws (Some t) ≡ true → ⊥
+no_words k p bs ws t others h e = absent k p bs t (among_is scan.Other ws t others e) h
 
 pub no_symbol :
     (k : Kind) (p : Phase) (bs : List Bool) (s : Symbol) (t : Terminal)
     → symbol_class s ≡ scan.Other
     → may_come k p bs (terminal_class t) ≡ true → is_symbol s (Some t) ≡ true → ⊥
-no_symbol k p bs s t other h e =
-    no_other k p bs (subst (λ c. may_come k p bs c ≡ true) (symbol_is s t e ∙ other) h)
-
-abbrev pub AreOtherWords : List Keyword → Type 0
-AreOtherWords [] = Unit {0}
-AreOtherWords (w ∷ ws) = (keyword_class w ≡ scan.Other) × AreOtherWords ws
-
-pub no_words :
-    (k : Kind) (p : Phase) (bs : List Bool) (ws : List Keyword) (t : Terminal) → AreOtherWords ws
-    → may_come k p bs (terminal_class t) ≡ true → is_keyword_among ws (Some t) ≡ true → ⊥
-no_words k p bs [] t others h e = cc
-no_words k p bs (w ∷ ws) t others h e =
-    elim (either (is_keyword w (Some t)) _ e) [
-      | inl one ↦ no_word k p bs w t others.0 h one
-      | inr more ↦ no_words k p bs ws t others.1 h more
-    ]
-
-abbrev pub AreOtherSymbols : List Symbol → Type 0
-AreOtherSymbols [] = Unit {0}
-AreOtherSymbols (s ∷ ss) = (symbol_class s ≡ scan.Other) × AreOtherSymbols ss
+no_symbol k p bs s t other h e = absent k p bs t (symbol_is s t e ∙ other) h
 
 pub no_symbols :
-    (k : Kind) (p : Phase) (bs : List Bool) (ss : List Symbol) (t : Terminal) → AreOtherSymbols ss
+    (k : Kind) (p : Phase) (bs : List Bool) (ss : List Symbol) (t : Terminal)
+    → HaveClass symbol_class scan.Other ss
     → may_come k p bs (terminal_class t) ≡ true → is_symbol_among ss (Some t) ≡ true → ⊥
-no_symbols k p bs [] t others h e = cc
-no_symbols k p bs (s ∷ ss) t others h e =
-    elim (either (is_symbol s (Some t)) _ e) [
-      | inl one ↦ no_symbol k p bs s t others.0 h one
-      | inr more ↦ no_symbols k p bs ss t others.1 h more
-    ]
+no_symbols k p bs ss t others h e =
+    absent k p bs t (one_is symbol_class is_symbol symbol_is scan.Other ss t others e) h
 
 -- the scan goes on behind a terminal of this class
 pub seen :
     (k : Kind) (p : Phase) (bs : List Bool) (t : Terminal) (ts : List Terminal) (c : Class)
     → terminal_class t ≡ c → Taken k p bs (t ∷ ts) → TakesFirst k p bs c ts
 seen k p bs t ts c e h = subst (λ d. TakesFirst k p bs d ts) e h
-
--- one of these words stands there, and all have this class
-abbrev pub HaveClass : Class → List Keyword → Type 0
-HaveClass c [] = Unit {0}
-HaveClass c (w ∷ ws) = (keyword_class w ≡ c) × HaveClass c ws
-
-pub among_is :
-    (c : Class) (ws : List Keyword) (t : Terminal) → HaveClass c ws
-    → is_keyword_among ws (Some t) ≡ true → terminal_class t ≡ c
-among_is c [] t have e = cc
-among_is c (w ∷ ws) t have e =
-    elim (either (is_keyword w (Some t)) _ e) [
-      | inl one ↦ keyword_is w t one ∙ have.0
-      | inr more ↦ among_is c ws t have.1 more
-    ]

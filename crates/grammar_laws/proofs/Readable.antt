@@ -13,7 +13,7 @@ use Rattle.sql_read.specs.declared.lexeme.Mark.TheVariants as mark
 use Rattle.sql_read.specs.Lexemes.{Lexeme}
 use Rattle.sql_read.specs.Lexemes as lexeme
 use Rattle.sql_read.specs.Leaves.{signed}
-use Rattle.sql_read.specs.Parts.{Cuts}
+use Rattle.sql_read.specs.Limits.{Cuts}
 use Rattle.sql_parse.specs.Grammar.{Level, Spells, Members, IsOp, IsNullTest, IsNumber, perhaps_not}
 use Rattle.sql_parse.specs.Grammar as g
 use Rattle.sql_parse.specs.Statements.{Listed, Condition, Label, Alias, Result, Table, Joined, Join}
@@ -79,12 +79,7 @@ negative_number (g.dec e) = record { passed = λ rest. rw e refl }
 
 no_minus : {m : Mark} {o : Op} → IsOp m o → is_minus (lexeme.Fixed m) ≡ false
 no_minus g.eq = refl
-no_minus g.eq_eq = refl
-no_minus g.ne = refl
-no_minus g.lt = refl
-no_minus g.le = refl
-no_minus g.gt = refl
-no_minus g.ge = refl
+no_minus _ = refl
 
 null_test : {neg : Bool} {ms : List Lexeme} → IsNullTest neg ms → Passes ms
 null_test g.is_null = front _ refl refl (alone _ refl refl)
@@ -114,6 +109,8 @@ mutual
   expression (g.between neg x y z e) =
       along e (beside (expression x) (beside (word neg mark.Between refl)
       (beside (expression y) (front _ refl refl (expression z)))))
+  expression (g.like neg x y e) =
+      along e (beside (expression x) (beside (word neg mark.Like refl) (expression y)))
   expression (g.in_none neg x e) =
       along e (beside (expression x) (beside (word neg mark.In refl) (enclosed nothing)))
   expression (g.in_some neg x xs e) =
@@ -169,11 +166,10 @@ result _ _ s.star = alone _ refl refl
 result _ _ (s.table_star t d) = front _ refl refl (front _ refl refl (alone _ refl refl))
 result _ _ (s.value x a e) = along e (beside (expression x) (alias a))
 
-table : {cross : Bool} {ts : List Lexeme} {source : SourceTree} → Table cross ts source → Passes ts
+table : {ts : List Lexeme} {source : SourceTree} → Table ts source → Passes ts
 table (s.table t d a) = front _ refl refl (alias a)
 
-joined : {cross : Bool} {ts : List Lexeme} {source : SourceTree} → Joined cross ts source
-    → Passes ts
+joined : {ts : List Lexeme} {source : SourceTree} → Joined ts source → Passes ts
 joined (s.joined t on e) = along e (front _ refl refl (beside (table t) (condition refl on)))
 
 join : {ts : List Lexeme} {source : SourceTree} → Join ts source → Passes ts
@@ -181,6 +177,8 @@ join (s.comma t) = front _ refl refl (table t)
 join (s.plain j) = joined j
 join (s.inner j) = front _ refl refl (joined j)
 join (s.cross j) = front _ refl refl (joined j)
+join (s.left j) = front _ refl refl (joined j)
+join (s.left_outer j) = front _ refl refl (front _ refl refl (joined j))
 
 joins : {ts : List Lexeme} {all : List SourceTree} → Joins ts all → Passes ts
 joins s.none = nothing

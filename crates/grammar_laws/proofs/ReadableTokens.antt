@@ -24,20 +24,20 @@ use Rattle.sql_tokens.specs.NumberValues.{or_zero, number_around, number_of}
 use Rattle.sql_tokens.specs.Terminals.{terminal_of_kind, terminal_of, text_of}
 use Rattle.sql_tokens.specs.TokenValues.{value_of}
 use Rattle.sql_tree.specs.Statements.{StatementTree}
-use Rattle.sql_lex.specs.Depth.{depth_of}
+use Rattle.sql_lex.specs.Depth.{depth_limit, depth_of}
 use Rattle.sql_read.specs.declared.lexeme.Direction.{Direction}
 use Rattle.sql_read.specs.declared.lexeme.Mark.{Mark}
 use Rattle.sql_read.specs.declared.lexeme.Mark.TheVariants as mark
 use Rattle.sql_read.specs.Lexemes as lexeme
 use Rattle.sql_parse.specs.declared.refusals.ParseFault.TheVariants as fault
-use Rattle.sql_parse.specs.Parameters.{Met, parameter_number, no_parameters}
-use Rattle.sql_parse.specs.Refusals.{is_bad_kind, has_bad, has_value, is_outside_by, is_outside}
-use Rattle.sql_parse.specs.Refusals.{outside_from, first_refusal}
+use Rattle.sql_lexemes.specs.Parameters.{Met, parameter_number, no_parameters}
+use Rattle.sql_parse.specs.Refusals.{is_bad, has_bad_token, has_value, is_outside_by, is_outside}
+use Rattle.sql_parse.specs.Refusals.{number_outside_from, first_refusal}
 use Rattle.sql_parse.specs.Refusals as refusals
 use Rattle.sql_parse.specs.Statements.{IsSpelled}
-use Rattle.sql_parse.specs.TokenLexemes.{keyword_mark, symbol_mark, mark_or, keyword_direction}
-use Rattle.sql_parse.specs.TokenLexemes.{number_lexeme, parameter_lexeme, lexeme_by, lexeme_at}
-use Rattle.sql_parse.specs.TokenLexemes.{met_after, lexemes_from, lexemes_of}
+use Rattle.sql_lexemes.specs.TokenLexemes.{keyword_mark, symbol_mark, mark_or, keyword_direction}
+use Rattle.sql_lexemes.specs.TokenLexemes.{number_lexeme, parameter_lexeme, lexeme_by, lexeme_at}
+use Rattle.sql_lexemes.specs.TokenLexemes.{met_after, lexemes_from, lexemes_of}
 use Rattle.grammar_laws.proofs.Readable.{is_readable, is_minus, are_readable, spelled_readable}
 use Rattle.grammar_laws.proofs.Places.{both}
 use Rattle.grammar_laws.proofs.Known.{known}
@@ -117,14 +117,14 @@ not_outside _ negative bytes value met e = refl
 not_bad_kind :
     (k : TokenKind) (negative : Bool) (bytes value : List ℕ) (met : Met)
     → is_readable negative (lexeme_by (terminal_of_kind k bytes) bytes value met) ≡ true
-    → is_bad_kind k ≡ false
-unfolding is_bad_kind
+    → is_bad k ≡ false
+unfolding is_bad
 not_bad_kind kind.Bad negative bytes value met e = cc
 not_bad_kind _ negative bytes value met e = refl
 
 not_bad :
     (text : List ℕ) (met : Met) (negative : Bool) (t : Token)
-    → is_readable negative (lexeme_at text met t) ≡ true → is_bad_kind t.kind ≡ false
+    → is_readable negative (lexeme_at text met t) ≡ true → is_bad t.kind ≡ false
 unfolding lexeme_at terminal_of
 not_bad text met negative t e =
     not_bad_kind t.kind negative (text_of text t) (value_of text t) met e
@@ -180,7 +180,7 @@ same_minus _ bytes value met = refl
 readable_tokens :
     (text : List ℕ) (met : Met) (negative : Bool) (tokens : List Token)
     → are_readable negative (lexemes_from text met tokens) ≡ true
-    → (has_bad tokens ≡ false) × (outside_from text negative tokens ≡ false)
+    → (has_bad_token tokens ≡ false) × (number_outside_from text negative tokens ≡ false)
 unfolding lexeme_at is_outside
 readable_tokens text met negative [] e = (refl, refl)
 readable_tokens text met negative (t ∷ ts) e =
@@ -199,7 +199,8 @@ readable_tokens text met negative (t ∷ ts) e =
 pub refused_for_depth_alone :
     (text : List ℕ) (tokens : List Token) (tree : StatementTree)
     → IsSpelled (lexemes_of text tokens) tree
-    → first_refusal text tokens ≡ cond (nat_lt 200 (depth_of text tokens)) (Some fault.TooDeep) None
+    → first_refusal text tokens
+    ≡ cond (nat_lt depth_limit (depth_of text tokens)) (Some fault.TooDeep) None
 unfolding first_refusal
 refused_for_depth_alone text tokens tree spelled =
     let r = readable_tokens text no_parameters false tokens (spelled_readable spelled) in

@@ -10,7 +10,7 @@ use Rattle.sql_tokens.specs.declared.terminal.Terminal.{Terminal}
 use Rattle.sql_tokens.specs.declared.terminal.Terminal.TheVariants as terminal
 use Rattle.sql_lex.specs.Looks.{is_keyword, is_symbol}
 use Rattle.sql_lex.specs.Rows.{State, step_of, any_from, has_row_value}
-use Rattle.sql_parse.specs.TokenLexemes.{keyword_mark, symbol_mark}
+use Rattle.sql_lexemes.specs.TokenLexemes.{keyword_mark, symbol_mark}
 use Rattle.grammar_laws.proofs.Scan.{Class, Kind, Phase, may_come, phase_behind, stack_behind}
 use Rattle.grammar_laws.proofs.Scan.{is_after_in}
 use Rattle.grammar_laws.proofs.Scan.{mark_class, keyword_class, symbol_class, terminal_class}
@@ -39,13 +39,7 @@ same_step : (t : Terminal) → step_of t ≡ step_of (sample (terminal_class t))
 unfolding terminal_class step_of is_keyword is_symbol
 same_step (terminal.Keyword k) = keyword_step k
 same_step (terminal.Symbol s) = symbol_step s
-same_step terminal.Word = refl
-same_step terminal.Quoted = refl
-same_step terminal.Text = refl
-same_step terminal.Blob = refl
-same_step terminal.Number = refl
-same_step terminal.Parameter = refl
-same_step terminal.Bad = refl
+same_step _ = refl
 
 abbrev state_of : List Bool → Bool → State
 state_of bs after = record { stack = bs; after = after }

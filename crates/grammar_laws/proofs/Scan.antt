@@ -11,7 +11,7 @@ use Rattle.sql_read.specs.declared.lexeme.Mark.{Mark}
 use Rattle.sql_read.specs.declared.lexeme.Mark.TheVariants as mark
 use Rattle.sql_read.specs.Lexemes.{Lexeme}
 use Rattle.sql_read.specs.Lexemes as lexeme
-use Rattle.sql_parse.specs.TokenLexemes.{keyword_mark, symbol_mark}
+use Rattle.sql_lexemes.specs.TokenLexemes.{keyword_mark, symbol_mark}
 
 pub data Class : Type 0 where
   Name : Class
@@ -157,27 +157,7 @@ abbrev pub has_comma : List Bool → Bool
 has_comma [] = true
 has_comma (b ∷ bs) = b
 
-abbrev pub opens : Kind → List Bool → Class → Bool
-opens k bs Comma = has_comma bs
-opens k bs From = has_from k
-opens k bs Tail = has_tail k
-opens k bs Name = true
-opens k bs Text = true
-opens k bs Value = true
-opens k bs Number = true
-opens k bs Null = true
-opens k bs Open = true
-opens k bs Close = true
-opens k bs Plus = true
-opens k bs Minus = true
-opens k bs In = true
-opens k bs Is = true
-opens k bs Not = true
-opens k bs Calling = true
-opens k bs Tested = true
-opens k bs Word = true
-opens k bs _ = false
-
+-- what may follow an operand
 abbrev pub follows : Kind → List Bool → Class → Bool
 follows k bs Comma = has_comma bs
 follows k bs From = has_from k
@@ -192,6 +172,20 @@ follows k bs Calling = true
 follows k bs Tested = true
 follows k bs Word = true
 follows k bs _ = false
+
+-- an operand may begin so
+abbrev pub begins_operand : Class → Bool
+begins_operand Value = true
+begins_operand Number = true
+begins_operand Null = true
+begins_operand Open = true
+begins_operand Plus = true
+begins_operand Minus = true
+begins_operand _ = false
+
+-- what may stand where an operand may begin
+abbrev pub opens : Kind → List Bool → Class → Bool
+opens k bs c = begins_operand c || follows k bs c
 
 abbrev pub is_star : Class → Bool
 is_star Star = true

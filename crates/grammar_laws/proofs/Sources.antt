@@ -6,16 +6,15 @@ use Rattle.sql_value.specs.declared.keywords.Keyword.TheVariants as keyword
 use Rattle.sql_tokens.specs.declared.symbols.Symbol.TheVariants as symbol
 use Rattle.sql_tokens.specs.declared.terminal.Terminal.{Terminal}
 use Rattle.sql_lex.specs.Looks.{is_keyword, is_symbol, is_keyword_among, is_name, is_free_word}
-use Rattle.sql_lex.specs.JoinPatterns.{fits_parenthesized_join}
-use Rattle.sql_lex.specs.ClausePatterns.{fits_qualified_table}
-use Rattle.sql_lex.specs.Places.{place_of}
-use Rattle.sql_parse.specs.TokenLexemes.{keyword_mark, symbol_mark}
+use Rattle.sql_lex.specs.Patterns.{fits, fits_qualified_table}
+use Rattle.sql_lex.specs.declared.constructs.Foreign.TheVariants as foreign
+use Rattle.sql_lexemes.specs.TokenLexemes.{keyword_mark, symbol_mark}
 use Rattle.grammar_laws.proofs.Scan.{Class, Kind, Phase, may_come, phase_behind, stack_behind}
 use Rattle.grammar_laws.proofs.Scan.{mark_class, keyword_class, symbol_class, terminal_class}
 use Rattle.grammar_laws.proofs.Scan as scan
 use Rattle.grammar_laws.proofs.Terminals.{keyword_is, symbol_is, name_is}
 use Rattle.grammar_laws.proofs.Places.{both_true}
-use Rattle.grammar_laws.proofs.Places.{NeverAt, Taken, either, both, second_false, seen}
+use Rattle.grammar_laws.proofs.Places.{Never, Taken, either, both, second_false, seen}
 
 -- words behind which a table stands
 abbrev calls : Class → Bool
@@ -60,8 +59,8 @@ unfolding may_come
 no_open k bs e = cc
 
 pub no_parenthesized_join :
-    (k : Kind) (first : Option Terminal) → NeverAt place_of k first fits_parenthesized_join
-unfolding fits_parenthesized_join is_symbol keyword_class keyword_mark symbol_class symbol_mark
+    (k : Kind) (first : Option Terminal) → Never k first foreign.ParenthesizedJoin
+unfolding fits is_symbol keyword_class keyword_mark symbol_class symbol_mark
     mark_class
 no_parenthesized_join k first p bs before t [] b h e =
     second_false (is_keyword_among (keyword.From ∷ keyword.Join ∷ []) (Some t)) e
@@ -111,9 +110,9 @@ three_names k p bs t u v w ws h e =
     (both_true (is_name (Some v)) (is_symbol symbol.Point (Some w)) name.1 last.1)
 
 pub no_qualified_table :
-    (k : Kind) (first : Option Terminal) → NeverAt place_of k first fits_qualified_table
-unfolding fits_qualified_table is_symbol is_name is_free_word keyword_class keyword_mark mark_class
-    phase_behind
+    (k : Kind) (first : Option Terminal) → Never k first foreign.QualifiedTable
+unfolding fits fits_qualified_table is_symbol is_name is_free_word keyword_class keyword_mark
+    mark_class phase_behind
 no_qualified_table k first p bs before t [] b h e =
     elim (either
     (is_keyword_among (keyword.From ∷ keyword.Join ∷ keyword.Update ∷ [])

@@ -9,7 +9,7 @@ use Rattle.sql_read.specs.declared.lexeme.Mark.{Mark}
 use Rattle.sql_read.specs.declared.lexeme.Mark.TheVariants as mark
 use Rattle.sql_read.specs.Lexemes.{Lexeme}
 use Rattle.sql_read.specs.Lexemes as lexeme
-use Rattle.sql_read.specs.Parts.{Cuts}
+use Rattle.sql_read.specs.Limits.{Cuts}
 use Rattle.sql_parse.specs.Statements.{Listed, Condition, Label, Alias, Result, Table, Joined, Join}
 use Rattle.sql_parse.specs.Statements.{Joins}
 use Rattle.sql_parse.specs.Statements.{Sources, Directed, SortKey, SortKeys, Count, Limits, Setting}
@@ -19,7 +19,8 @@ use Rattle.sql_parse.proofs.Complete.{parts}
 use Rattle.grammar_laws.proofs.Scan.{Kind, Phase, Takes, Before, mark_class, lexeme_class}
 use Rattle.grammar_laws.proofs.Scan.{may_come, phase_behind, stack_behind}
 use Rattle.grammar_laws.proofs.Scan as scan
-use Rattle.grammar_laws.proofs.Expressions.{Goes, Rest, Start, behind_mark, expression}
+use Rattle.grammar_laws.proofs.Expressions.{Goes, Rest, Start, behind_mark, before_word}
+use Rattle.grammar_laws.proofs.Expressions.{expression}
 
 -- Names.
 
@@ -51,14 +52,14 @@ alias k (s.behind_as l) rest h _ scan.ended = (refl, called k l rest h)
 -- Sources.
 
 table :
-    (k : Kind) {cross : Bool} {ts : List Lexeme} {source : SourceTree} → Table cross ts source
+    (k : Kind) {ts : List Lexeme} {source : SourceTree} → Table ts source
     → (rest : List Lexeme) → Rest k [] rest → Goes k scan.Label [] (ts ++ rest)
 unfolding lexeme_class may_come phase_behind stack_behind
 table k (s.table t d a) rest h = (refl, alias k a rest h scan.Ended scan.ended)
 
 -- behind a comma
 further_table :
-    (k : Kind) {cross : Bool} {ts : List Lexeme} {source : SourceTree} → Table cross ts source
+    (k : Kind) {ts : List Lexeme} {source : SourceTree} → Table ts source
     → (rest : List Lexeme) → Rest k [] rest → Goes k scan.Fresh [] (ts ++ rest)
 unfolding lexeme_class may_come phase_behind stack_behind
 further_table k (s.table t d a) rest h = (refl, alias k a rest h scan.Named scan.named)
@@ -70,31 +71,45 @@ condition k e s.absent rest h = h
 condition k e (s.present {m} {ts} x) rest h =
     behind_mark k [] (ts ++ rest) m e (expression x k [] rest h scan.Anew scan.anew)
 
+-- a comma between two
+between_two :
+    (k : Kind) (rest : List Lexeme) → Goes k scan.Fresh [] rest
+    → Rest k [] (lexeme.Fixed mark.Comma ∷ rest)
+unfolding lexeme_class mark_class may_come phase_behind stack_behind
+between_two k rest h _ scan.named = (refl, h)
+between_two k rest h _ scan.ended = (refl, h)
+
+-- JOIN, where a word of joins may stand before it
 joined :
-    (k : Kind) {cross : Bool} {ts : List Lexeme} {source : SourceTree} → Joined cross ts source
-    → (rest : List Lexeme) → Rest k [] rest
-    → (tail : List Lexeme) × (ts ++ rest ≡ lexeme.Fixed mark.Join ∷ tail)
-    × Goes k scan.Label [] tail
-unfolding mark_class
+    (k : Kind) {ts : List Lexeme} {source : SourceTree} → Joined ts source → (rest : List Lexeme)
+    → Rest k [] rest → Rest k [] (ts ++ rest) × Goes k scan.Anew [] (ts ++ rest)
+unfolding lexeme_class mark_class may_come phase_behind stack_behind
 joined k (s.joined {ts = ts} {fs = fs} {bs = bs} t on e) rest h =
-    let tail : List Lexeme = fs ++ (bs ++ rest) in (
-      tail,
-      ap (λ r. r ++ rest) e ∙ ap (λ r. lexeme.Fixed mark.Join ∷ r) (append_assoc fs bs rest),
-      table k t (bs ++ rest) (condition k refl on rest h),
+    let tail : List Lexeme = fs ++ (bs ++ rest) in
+    let whole : ts ++ rest ≡ lexeme.Fixed mark.Join ∷ tail =
+    ap (λ r. r ++ rest) e ∙ ap (λ r. lexeme.Fixed mark.Join ∷ r) (append_assoc fs bs rest) in
+    let taken = table k t (bs ++ rest) (condition k refl on rest h) in (
+      λ q b. rw whole (behind_join tail taken q b),
+      rw whole (refl, taken),
     )
+  where
+    behind_join : (tail : List Lexeme) → Goes k scan.Label [] tail
+        → Rest k [] (lexeme.Fixed mark.Join ∷ tail)
+    behind_join tail taken _ scan.named = (refl, taken)
+    behind_join tail taken _ scan.ended = (refl, taken)
 
 join :
     (k : Kind) {ts : List Lexeme} {source : SourceTree} → Join ts source → (rest : List Lexeme)
     → Rest k [] rest → Rest k [] (ts ++ rest)
-unfolding lexeme_class mark_class may_come phase_behind stack_behind
-join k (s.comma t) rest h _ scan.named = (refl, further_table k t rest h)
-join k (s.comma t) rest h _ scan.ended = (refl, further_table k t rest h)
-join k (s.plain j) rest h _ scan.named = let w = joined k j rest h in rw w.1 (refl, w.2)
-join k (s.plain j) rest h _ scan.ended = let w = joined k j rest h in rw w.1 (refl, w.2)
-join k (s.inner j) rest h _ scan.named = let w = joined k j rest h in (refl, rw w.1 (refl, w.2))
-join k (s.inner j) rest h _ scan.ended = let w = joined k j rest h in (refl, rw w.1 (refl, w.2))
-join k (s.cross j) rest h _ scan.named = let w = joined k j rest h in (refl, rw w.1 (refl, w.2))
-join k (s.cross j) rest h _ scan.ended = let w = joined k j rest h in (refl, rw w.1 (refl, w.2))
+unfolding mark_class
+join k (s.comma {ts} t) rest h = between_two k (ts ++ rest) (further_table k t rest h)
+join k (s.plain j) rest h = (joined k j rest h).0
+join k (s.inner {ts} j) rest h = behind_mark k [] (ts ++ rest) mark.Inner refl (joined k j rest h).1
+join k (s.cross {ts} j) rest h = behind_mark k [] (ts ++ rest) mark.Cross refl (joined k j rest h).1
+join k (s.left {ts} j) rest h = behind_mark k [] (ts ++ rest) mark.Left refl (joined k j rest h).1
+join k (s.left_outer {ts} j) rest h =
+    behind_mark k [] (lexeme.Fixed mark.Outer ∷ (ts ++ rest)) mark.Left refl
+    (before_word k [] (ts ++ rest) mark.Outer refl (joined k j rest h).1)
 
 joins :
     (k : Kind) {ts : List Lexeme} {sources : List SourceTree} → Joins ts sources
@@ -110,13 +125,6 @@ sources k (s.sources {ts} {fs} {bs} t js e) rest h =
     rw (parts ts fs bs rest e) (table k t (bs ++ rest) (joins k js rest h))
 
 -- Lists.
-
-between_two :
-    (k : Kind) (rest : List Lexeme) → Goes k scan.Fresh [] rest
-    → Rest k [] (lexeme.Fixed mark.Comma ∷ rest)
-unfolding lexeme_class mark_class may_come phase_behind stack_behind
-between_two k rest h _ scan.named = (refl, h)
-between_two k rest h _ scan.ended = (refl, h)
 
 -- one of a list's members is taken in such phases
 abbrev TakesOne : {A : Type 0} → (Phase → Type 0) → Kind → (List Lexeme → A → Type 0) → Type 0

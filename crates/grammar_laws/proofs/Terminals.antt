@@ -22,10 +22,10 @@ use Rattle.sql_read.specs.declared.lexeme.Mark.{Mark}
 use Rattle.sql_read.specs.declared.lexeme.Direction.{Direction}
 use Rattle.sql_read.specs.Lexemes.{Lexeme}
 use Rattle.sql_read.specs.Lexemes as lexeme
-use Rattle.sql_parse.specs.Parameters.{Met, parameter_number}
-use Rattle.sql_parse.specs.TokenLexemes.{keyword_mark, symbol_mark, mark_or, keyword_direction}
-use Rattle.sql_parse.specs.TokenLexemes.{number_lexeme, parameter_lexeme, lexeme_by, lexeme_at}
-use Rattle.sql_parse.specs.TokenLexemes.{met_after, lexemes_from}
+use Rattle.sql_lexemes.specs.Parameters.{Met, parameter_number}
+use Rattle.sql_lexemes.specs.TokenLexemes.{keyword_mark, symbol_mark, mark_or, keyword_direction}
+use Rattle.sql_lexemes.specs.TokenLexemes.{number_lexeme, parameter_lexeme, lexeme_by, lexeme_at}
+use Rattle.sql_lexemes.specs.TokenLexemes.{met_after, lexemes_from}
 use Rattle.grammar_laws.proofs.Scan.{Class, Kind, Phase, Takes, may_come, phase_behind}
 use Rattle.grammar_laws.proofs.Scan.{stack_behind}
 use Rattle.grammar_laws.proofs.Scan.{mark_class, lexeme_class, class_or, keyword_class}
@@ -124,27 +124,13 @@ pub keyword_is :
     (k : Keyword) (t : Terminal) → is_keyword k (Some t) ≡ true → terminal_class t ≡ keyword_class k
 unfolding is_keyword terminal_class
 keyword_is k (terminal.Keyword w) e = ap keyword_class (same_true keywords.the_type tt w k e)
-keyword_is k terminal.Word e = cc
-keyword_is k terminal.Quoted e = cc
-keyword_is k terminal.Text e = cc
-keyword_is k terminal.Blob e = cc
-keyword_is k terminal.Number e = cc
-keyword_is k terminal.Parameter e = cc
-keyword_is k (terminal.Symbol s) e = cc
-keyword_is k terminal.Bad e = cc
+keyword_is k _ e = cc
 
 pub symbol_is :
     (s : Symbol) (t : Terminal) → is_symbol s (Some t) ≡ true → terminal_class t ≡ symbol_class s
 unfolding is_symbol terminal_class
-symbol_is s (terminal.Keyword w) e = cc
-symbol_is s terminal.Word e = cc
-symbol_is s terminal.Quoted e = cc
-symbol_is s terminal.Text e = cc
-symbol_is s terminal.Blob e = cc
-symbol_is s terminal.Number e = cc
-symbol_is s terminal.Parameter e = cc
 symbol_is s (terminal.Symbol t) e = ap symbol_class (same_true symbols.the_type tt t s e)
-symbol_is s terminal.Bad e = cc
+symbol_is s _ e = cc
 
 -- a mark is no name
 free_keyword : (k : Keyword) → not (is_reserved_word k) ≡ true → keyword_class k ≡ scan.Name
@@ -156,25 +142,14 @@ pub free_word_is : (t : Terminal) → is_free_word (Some t) ≡ true → termina
 unfolding is_free_word terminal_class
 free_word_is (terminal.Keyword k) e = free_keyword k e
 free_word_is terminal.Word e = refl
-free_word_is terminal.Quoted e = cc
-free_word_is terminal.Text e = cc
-free_word_is terminal.Blob e = cc
-free_word_is terminal.Number e = cc
-free_word_is terminal.Parameter e = cc
-free_word_is (terminal.Symbol s) e = cc
-free_word_is terminal.Bad e = cc
+free_word_is _ e = cc
 
 pub name_is : (t : Terminal) → is_name (Some t) ≡ true → terminal_class t ≡ scan.Name
 unfolding is_name is_free_word terminal_class
 name_is (terminal.Keyword k) e = free_keyword k e
 name_is terminal.Word e = refl
 name_is terminal.Quoted e = refl
-name_is terminal.Text e = cc
-name_is terminal.Blob e = cc
-name_is terminal.Number e = cc
-name_is terminal.Parameter e = cc
-name_is (terminal.Symbol s) e = cc
-name_is terminal.Bad e = cc
+name_is _ e = cc
 
 -- an operand may end with this class
 abbrev pub ends : Class → Bool
@@ -209,14 +184,9 @@ pub operand_end_is :
     (t : Terminal) → is_operand_end (Some t) ≡ true → ends (terminal_class t) ≡ true
 unfolding terminal_class
 operand_end_is (terminal.Keyword k) e = keyword_end k e
-operand_end_is terminal.Word e = refl
-operand_end_is terminal.Quoted e = refl
-operand_end_is terminal.Text e = refl
-operand_end_is terminal.Blob e = refl
-operand_end_is terminal.Number e = refl
-operand_end_is terminal.Parameter e = refl
 operand_end_is (terminal.Symbol s) e = symbol_end s e
 operand_end_is terminal.Bad e = absurd (bad_end e)
+operand_end_is _ e = refl
 
 -- What a class says of a terminal.
 
@@ -246,11 +216,5 @@ symbol_means _ = refl
 pub class_means : (t : Terminal) → means (terminal_class t) t ≡ true
 unfolding terminal_class is_number
 class_means (terminal.Keyword k) = keyword_means k
-class_means terminal.Word = refl
-class_means terminal.Quoted = refl
-class_means terminal.Text = refl
-class_means terminal.Blob = refl
-class_means terminal.Number = refl
-class_means terminal.Parameter = refl
 class_means (terminal.Symbol s) = symbol_means s
-class_means terminal.Bad = refl
+class_means _ = refl

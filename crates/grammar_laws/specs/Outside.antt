@@ -59,6 +59,7 @@ is_above_operand mark.Or = true
 is_above_operand mark.Not = true
 is_above_operand mark.Between = true
 is_above_operand mark.In = true
+is_above_operand mark.Like = true
 is_above_operand mark.Is = true
 is_above_operand mark.Isnull = true
 is_above_operand mark.Notnull = true

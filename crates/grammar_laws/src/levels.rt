@@ -11,7 +11,8 @@ ghost use Rattle.grammar_laws.specs.Outside.{outside, is_or, is_between_or_and, 
 /// Which words and symbols stand outside of parentheses at a level of the grammar. So the first
 /// place where a level can be split is the only one that its first member allows.
 pub fn levels_split_at_one_place()
-    // An operand holds no comparison, no word of a test and none of AND, OR and NOT.
+    // An operand holds no comparison, no word of a test (BETWEEN, IN, LIKE, IS, ISNULL, NOTNULL)
+    // and none of AND, OR and NOT.
     ensures operand { (run : List Lexeme) → (tree : Tree) → Spells level.operand run tree
         → list_any is_above_operand (outside run) ≡ false }
     // A member of AND holds an AND only as the AND of its one BETWEEN.
