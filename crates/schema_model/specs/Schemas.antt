@@ -76,8 +76,12 @@ abbrev pub IsWithinOption : Option ℕ → ℕ → Type 0
 IsWithinOption None count = Unit {0}
 IsWithinOption (Some number) count = number < count
 
+-- how many columns a table may have
+abbrev pub column_limit : ℕ
+column_limit = 2000
+
 pub record IsTable (table : Table) : Type 0 where
-  pub few : length table.columns ≤ 2000
+  pub few : length table.columns ≤ column_limit
   pub differ : Differ (column_names table.columns)
   pub alias : IsWithinOption table.alias (length table.columns)
 

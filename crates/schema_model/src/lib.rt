@@ -22,4 +22,4 @@ pub use names::Names;
 pub use print::{append_columns, append_name, print_create};
 pub use rows::{Row, RowList, Tables};
 pub use schema::{Schema, schema_is_sound};
-pub use tables::{Found, Table};
+pub use tables::{COLUMN_LIMIT, Found, Table};

@@ -1,6 +1,6 @@
 //! Look-ups by name. The name that is looked for has its letters made lower.
 ghost use Rattle.std.specs.Prelude.{◌≡◌, ◌≤◌, length};
-ghost use Rattle.schema_model.specs.Schemas.{is_taken, found_table, found_column};
+ghost use Rattle.schema_model.specs.Schemas.{column_limit, is_taken, found_table, found_column};
 
 use crate::schema::Schema;
 use crate::tables::{Found, Table};
@@ -23,7 +23,7 @@ pub fn find_table(schema: &Schema, folded: &[u8]) -> Found
 
 /// The number of a table's column of a name, by one hash. Takes no memory.
 pub fn find_column(table: &Table, folded: &[u8]) -> Option<u32>
-    requires { length table.now.columns ≤ 2000 }
+    requires { length table.now.columns ≤ column_limit }
     ensures { result ≡ found_column table.now folded.now }
 {
     match table.columns.find(folded) {

@@ -31,9 +31,7 @@ pub(crate) fn folded_key(alloc: Global, name: &[u8]) -> Result<Vec<u8>, Memory>
 {
     let mut key = Vec::new(alloc);
     for byte in name {
-        if key.push(fold_byte(*byte)).is_err() {
-            return Err(Memory);
-        }
+        key.push(fold_byte(*byte))?;
     }
     Ok(key)
 }
@@ -69,9 +67,7 @@ impl Names {
         ensures err { OnErr result (self.new ≡ self.old) }
     {
         let key = folded_key(alloc, name)?;
-        let Ok(_) = self.keys.insert(key) else {
-            return Err(Memory);
-        };
+        self.keys.insert(key)?;
         Ok(())
     }
 
@@ -87,9 +83,8 @@ impl Names {
     pub fn try_copy(&self) -> Result<Names, Memory>
         ensures { IfOk result (λ names. names ≡ self.now) }
     {
-        match self.keys.clone() {
-            Ok(keys) => Ok(Names { keys }),
-            Err(_) => Err(Memory),
-        }
+        Ok(Names {
+            keys: self.keys.clone()?,
+        })
     }
 }

@@ -2,6 +2,9 @@
 use crate::columns::Columns;
 use sql_value::Bytes;
 
+/// How many columns a table may have.
+pub const COLUMN_LIMIT: usize = 2_000;
+
 /// A table that is read: its name, its columns, and the column that is its rowid under another
 /// name, where it has one (<https://sqlite.org/lang_createtable.html>, "ROWIDs and the INTEGER
 /// PRIMARY KEY").

@@ -12,7 +12,7 @@ use Rattle.schema_model.specs.declared.tables.Table.{Table}
 use Rattle.schema_model.specs.declared.tables.Found.{Found}
 use Rattle.schema_model.specs.declared.tables.Found.TheVariants.{Read, Unread, Missing}
 use Rattle.schema_model.proofs.Sound.{all_push}
-use Rattle.schema_text.specs.Cursor.{Named}
+use Rattle.schema_text.specs.Cursor.{NameAndRest}
 use Rattle.schema_text.specs.Heads.{IndexHead}
 use Rattle.schema_text.specs.TableTexts.{table_of}
 use Rattle.schema_text.specs.declared.table_texts.TableText.{TableText}
@@ -57,13 +57,13 @@ module _ (n : ℕ) (d : State) (k : Kept n d) where
   created name (Some made) h = table_kept made h
 
   module _ (text : List ℕ) where
-    pub create_table_kept : (named : Named) → Kept (suc n) (apply_table text d named)
+    pub create_table_kept : (named : NameAndRest) → Kept (suc n) (apply_table text d named)
     create_table_kept named =
         chosen (Kept (suc n)) (is_refused d.schema (value_of text named.name)) (pass_statement d) _
         (statement_passed n d k)
         (created (value_of text named.name) (table_of text named) (table_aliased text named))
 
-    pub create_unread_kept : (named : Named) → Kept (suc n) (apply_unread text d named)
+    pub create_unread_kept : (named : NameAndRest) → Kept (suc n) (apply_unread text d named)
     create_unread_kept named =
         chosen (Kept (suc n)) (is_refused d.schema (value_of text named.name)) (pass_statement d) _
         (statement_passed n d k)

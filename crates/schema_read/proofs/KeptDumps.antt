@@ -6,7 +6,7 @@ use Rattle.sql_tokens.specs.Tokens.{tokens_of}
 use Rattle.sql_tokens.specs.declared.token.Token.{Token}
 use Rattle.sql_lex.specs.Statements.{run_of, statements_of}
 use Rattle.sql_lex.specs.declared.statement_runs.Span.{Span}
-use Rattle.schema_text.specs.Cursor.{Named}
+use Rattle.schema_text.specs.Cursor.{NameAndRest}
 use Rattle.schema_text.specs.Heads.{IndexHead, create_table_head, create_unread_head}
 use Rattle.schema_text.specs.Heads.{create_index_head}
 use Rattle.schema_read.specs.Dumps.{empty, insert_or_pass, index_or_further, unread_or_further}
@@ -28,12 +28,13 @@ module _ (text : List ℕ) (bytes : IsBytes text) where
     index_step ts None = insert_step (insert_head text ts)
     index_step ts (Some head) = create_index_kept n d k text head
 
-    unread_step : (ts : List Token) (o : Option Named)
+    unread_step : (ts : List Token) (o : Option NameAndRest)
         → Kept (suc n) (unread_or_further text d ts o)
     unread_step ts None = index_step ts (create_index_head text ts)
     unread_step ts (Some named) = create_unread_kept n d k text named
 
-    table_step : (ts : List Token) (o : Option Named) → Kept (suc n) (table_or_further text d ts o)
+    table_step : (ts : List Token) (o : Option NameAndRest)
+        → Kept (suc n) (table_or_further text d ts o)
     table_step ts None = unread_step ts (create_unread_head text ts)
     table_step ts (Some named) = create_table_kept n d k text named
 

@@ -7,7 +7,7 @@ use Rattle.schema_model.specs.UsableIndexes.{IsEmptyUnlessUsable}
 use Rattle.schema_model.proofs.Sound.{all_push}
 use Rattle.schema_model.specs.declared.tables.Table.{Table}
 use Rattle.schema_model.specs.declared.indexes.IndexColumn.{IndexColumn}
-use Rattle.schema_text.specs.declared.keys.Key.{Key}
+use Rattle.schema_text.specs.declared.keys.KeyConstraint.{KeyConstraint}
 use Rattle.schema_read.specs.Autoindexes.{Autoindexes, autoindex_name, with_autoindex, has_shape}
 use Rattle.schema_read.specs.Autoindexes.{is_on_rowid, index_columns, shape_of, add_shape}
 use Rattle.schema_read.specs.Autoindexes.{add_key_of, add_key, add_keys}
@@ -34,8 +34,8 @@ module _ (tables : List Table) (number : ℕ) where
       chosen (λ (b : Autoindexes). Indexed tables b.schema) (has_shape shape a.shapes) a _ k
       (with_autoindex_indexed a.schema (autoindex_name table (a.count + 1)) columns k)
 
-  add_key_indexed : (key : Key) (o : Option Table) (a : Autoindexes) → Indexed tables a.schema
-      → Indexed tables (add_key_of number key.columns o a).schema
+  add_key_indexed : (key : KeyConstraint) (o : Option Table) (a : Autoindexes)
+      → Indexed tables a.schema → Indexed tables (add_key_of number key.columns o a).schema
   add_key_indexed key None a k = k
   add_key_indexed key (Some table) a k =
       chosen (λ (b : Autoindexes). Indexed tables b.schema) (is_on_rowid table.alias key.columns) a
@@ -43,7 +43,7 @@ module _ (tables : List Table) (number : ℕ) where
       (add_shape_indexed table.name (index_columns table.columns key.columns)
       (shape_of (index_columns table.columns key.columns)) a k)
 
-  pub keys_indexed : (keys : List Key) (a : Autoindexes) → Indexed tables a.schema
+  pub keys_indexed : (keys : List KeyConstraint) (a : Autoindexes) → Indexed tables a.schema
       → Indexed tables (add_keys number keys a).schema
   keys_indexed [] a k = k
   keys_indexed (key ∷ keys) a k =

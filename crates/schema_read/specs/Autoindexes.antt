@@ -11,7 +11,7 @@ use Rattle.schema_model.specs.declared.columns.Column.{Column}
 use Rattle.schema_model.specs.declared.tables.Table.{Table}
 use Rattle.schema_model.specs.declared.indexes.IndexColumn.{IndexColumn}
 use Rattle.schema_text.specs.declared.entries.KeyColumn.{KeyColumn}
-use Rattle.schema_text.specs.declared.keys.Key.{Key}
+use Rattle.schema_text.specs.declared.keys.KeyConstraint.{KeyConstraint}
 
 abbrev pub own_collation : Option Column → Collation
 own_collation None = Binary
@@ -73,6 +73,9 @@ pub record Autoindexes : Type 0 where
   pub shapes : List (List ℕ)
   pub count : ℕ
 
+abbrev pub autoindexes : Schema → List (List ℕ) → ℕ → Autoindexes
+autoindexes schema shapes count = record { schema = schema; shapes = shapes; count = count }
+
 abbrev pub name_of : Option Table → List ℕ
 name_of None = []
 name_of (Some table) = table.name
@@ -97,13 +100,13 @@ add_key_of number key (Some table) a =
     (shape_of (index_columns table.columns key)) a)
 
 -- none for a key on the rowid alone, and none where an earlier key has the same shape
-abbrev pub add_key : ℕ → Key → Autoindexes → Autoindexes
+abbrev pub add_key : ℕ → KeyConstraint → Autoindexes → Autoindexes
 add_key number key a = add_key_of number key.columns (slice_get a.schema.tables number) a
 
-abbrev pub add_keys : ℕ → List Key → Autoindexes → Autoindexes
+abbrev pub add_keys : ℕ → List KeyConstraint → Autoindexes → Autoindexes
 add_keys number [] a = a
 add_keys number (key ∷ keys) a = add_keys number keys (add_key number key a)
 
-abbrev pub with_autoindexes : Schema → ℕ → List Key → Schema
+abbrev pub with_autoindexes : Schema → ℕ → List KeyConstraint → Schema
 with_autoindexes s number keys = (add_keys number keys
     (record { schema = s; shapes = []; count = 0 })).schema

@@ -11,7 +11,7 @@ use Rattle.schema_model.specs.declared.tables.Found.{Found}
 use Rattle.schema_model.specs.declared.tables.Found.TheVariants.{Read, Unread, Missing}
 use Rattle.schema_model.specs.declared.indexes.Index.{Index}
 use Rattle.schema_model.specs.declared.indexes.IndexColumn.{IndexColumn}
-use Rattle.schema_text.specs.Cursor.{Named}
+use Rattle.schema_text.specs.Cursor.{NameAndRest}
 use Rattle.schema_text.specs.Heads.{IndexHead}
 use Rattle.schema_text.specs.Groups.{parts_of}
 use Rattle.schema_text.specs.Entries.{entries_of, key_columns}
@@ -33,16 +33,16 @@ abbrev pub create_table : State → List ℕ → Option TableText → State
 create_table d name None = with_schema d (with_unread d.schema name)
 create_table d name (Some made) = keep_table d made
 
-abbrev pub create_named : List ℕ → State → List ℕ → Named → State
+abbrev pub create_named : List ℕ → State → List ℕ → NameAndRest → State
 create_named text d name named = create_table d name (table_of text named)
 
 -- a table that is read, or its name alone; nothing where the name is refused
-abbrev pub apply_table : List ℕ → State → Named → State
+abbrev pub apply_table : List ℕ → State → NameAndRest → State
 apply_table text d named =
     cond (is_refused d.schema (value_of text named.name)) (pass_statement d)
     (create_named text d (value_of text named.name) named)
 
-abbrev pub apply_unread : List ℕ → State → Named → State
+abbrev pub apply_unread : List ℕ → State → NameAndRest → State
 apply_unread text d named =
     cond (is_refused d.schema (value_of text named.name)) (pass_statement d)
     (with_schema d (with_unread d.schema (value_of text named.name)))

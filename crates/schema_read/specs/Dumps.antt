@@ -6,7 +6,7 @@ use Rattle.sql_lex.specs.Statements.{run_of, statements_of}
 use Rattle.sql_lex.specs.declared.statement_runs.Span.{Span}
 use Rattle.schema_model.specs.PlainSchemas.{plain_database}
 use Rattle.schema_model.specs.Schemas.{Schema}
-use Rattle.schema_text.specs.Cursor.{Named}
+use Rattle.schema_text.specs.Cursor.{NameAndRest}
 use Rattle.schema_text.specs.Heads.{IndexHead, create_table_head, create_unread_head}
 use Rattle.schema_text.specs.Heads.{create_index_head}
 use Rattle.schema_read.specs.States as states
@@ -35,14 +35,14 @@ index_or_further text d ts None = step_insert text d ts
 abbrev pub step_index : List ℕ → State → List Token → State
 step_index text d ts = index_or_further text d ts (create_index_head text ts)
 
-abbrev pub unread_or_further : List ℕ → State → List Token → Option Named → State
+abbrev pub unread_or_further : List ℕ → State → List Token → Option NameAndRest → State
 unread_or_further text d ts (Some named) = apply_unread text d named
 unread_or_further text d ts None = step_index text d ts
 
 abbrev pub step_unread : List ℕ → State → List Token → State
 step_unread text d ts = unread_or_further text d ts (create_unread_head text ts)
 
-abbrev pub table_or_further : List ℕ → State → List Token → Option Named → State
+abbrev pub table_or_further : List ℕ → State → List Token → Option NameAndRest → State
 table_or_further text d ts (Some named) = apply_table text d named
 table_or_further text d ts None = step_unread text d ts
 
@@ -73,7 +73,11 @@ seen_dump d =
 abbrev pub table_total : Schema → ℕ
 table_total s = length s.tables + length s.unread
 
+-- how many tables a dump may name
+abbrev pub table_limit : ℕ
+table_limit = 1000
+
 -- too many tables are told exactly where there are
 abbrev pub IsFaultOf : State → ReadDumpFault → Type 0
-IsFaultOf d TooManyTables = 1000 < table_total d.schema
+IsFaultOf d TooManyTables = table_limit < table_total d.schema
 IsFaultOf d Memory = Unit {0}

@@ -10,7 +10,7 @@ use Rattle.schema_model.specs.Schemas.{found_table}
 use Rattle.schema_model.specs.declared.tables.Table.{Table}
 use Rattle.schema_model.specs.declared.tables.Found.{Found}
 use Rattle.schema_model.specs.declared.tables.Found.TheVariants.{Read, Unread, Missing}
-use Rattle.schema_text.specs.Cursor.{Named, after_word, first_name}
+use Rattle.schema_text.specs.Cursor.{NameAndRest, after_word, first_name}
 use Rattle.schema_text.specs.Groups.{Enclosed, first_enclosed, parts_of}
 use Rattle.schema_read.specs.Entries.{entry_value, row_values}
 use Rattle.schema_read.specs.Rows.{has_rowid, next_rowid, insert_row as inserted_row}
@@ -30,7 +30,7 @@ abbrev pub nothing_behind : Token → Enclosed → List Token → Option InsertH
 nothing_behind table enclosed [] = Some (record { table = table; list = enclosed.inside })
 nothing_behind table enclosed (t ∷ ts) = None
 
-abbrev pub values_of : List ℕ → Named → Option InsertHead
+abbrev pub values_of : List ℕ → NameAndRest → Option InsertHead
 values_of text table =
     option_and_then (λ a. option_and_then
     (λ enclosed. nothing_behind table.name enclosed enclosed.rest) (first_enclosed text a))

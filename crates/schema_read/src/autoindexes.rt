@@ -9,7 +9,7 @@ ghost use Rattle.schema_read.specs.Autoindexes as meant;
 use crate::state::has_room;
 use indexmap::IndexSet;
 use schema_model::{Column, Index, IndexColumn, IndexColumns, Schema, add_index, name_taken};
-use schema_text::{Key, KeyColumn};
+use schema_text::{KeyColumn, KeyConstraint};
 use sql_value::{Bytes, Collation, Items, Memory, fold};
 use std::alloc::Global;
 use std::marker::Model;
@@ -70,13 +70,8 @@ fn shape_of(alloc: Global, columns: &[IndexColumn]) -> Result<Vec<u32>, Memory>
 fn append_shape(shape: &mut Vec<u32>, column: IndexColumn) -> Result<(), Memory>
     ensures { OnOk result (shape.new.items ≡ shape.old.items ++ meant.column_shape column) }
 {
-    let Ok(()) = shape.push(column.column) else {
-        return Err(Memory);
-    };
-    match shape.push(collation_number(column.coll)) {
-        Ok(()) => Ok(()),
-        Err(_) => Err(Memory),
-    }
+    shape.push(column.column)?;
+    Ok(shape.push(collation_number(column.coll))?)
 }
 
 /// The shapes of the keys so far, each found by one hash.
@@ -112,9 +107,7 @@ impl Shapes {
         requires { meant.has_shape shape.items self.old ≡ false }
         ensures { OnOk result (self.new ≡ self.old ++ shape.items ∷ []) }
     {
-        let Ok(_) = self.held.insert(shape) else {
-            return Err(Memory);
-        };
+        self.held.insert(shape)?;
         Ok(())
     }
 }
@@ -126,9 +119,7 @@ fn autoindex_name(alloc: Global, table: &[u8], number: u64) -> Result<Bytes, Mem
     let mut name = Bytes::copy(alloc, b"sqlite_autoindex_")?;
     name.append(table)?;
     name.append(b"_")?;
-    let Ok(digits) = format!(in alloc; "{number}") else {
-        return Err(Memory);
-    };
+    let digits = format!(in alloc; "{number}")?;
     name.append(digits.as_bytes())?;
     Ok(name)
 }
@@ -211,16 +202,9 @@ fn add_shape(
 ) -> Result<u64, Memory>
     requires { number < length schema.old.tables }
     ensures tables { OnOk result (schema.new.tables ≡ schema.old.tables) }
-    ensures same { IfOk result (λ more. record {
-      schema = schema.new;
-      shapes = shapes.new;
-      count = more;
-    } ≡ meant.add_shape number (meant.name_at schema.old number) columns
-        (meant.shape_of columns) (record {
-          schema = schema.old;
-          shapes = shapes.old;
-          count = count;
-        })) }
+    ensures same { IfOk result (λ more. meant.autoindexes schema.new shapes.new more
+        ≡ meant.add_shape number (meant.name_at schema.old number) columns
+        (meant.shape_of columns) (meant.autoindexes schema.old shapes.old count)) }
 {
     let shape = shape_of(alloc, columns.as_slice())?;
     if shapes.has(shape.as_slice()) {
@@ -242,18 +226,14 @@ fn add_key(
     alloc: Global,
     schema: &mut Schema,
     number: u32,
-    key: &Key,
+    key: &KeyConstraint,
     shapes: &mut Shapes,
     count: u64,
 ) -> Result<u64, Memory>
     requires { number < length schema.old.tables }
     ensures tables { OnOk result (schema.new.tables ≡ schema.old.tables) }
-    ensures same { IfOk result (λ more. record {
-      schema = schema.new;
-      shapes = shapes.new;
-      count = more;
-    } ≡ meant.add_key number key.now
-        (record { schema = schema.old; shapes = shapes.old; count = count })) }
+    ensures same { IfOk result (λ more. meant.autoindexes schema.new shapes.new more
+        ≡ meant.add_key number key.now (meant.autoindexes schema.old shapes.old count)) }
 {
     let table = schema.table(number);
     if is_on_rowid(table.alias, key.columns.as_slice()) {
@@ -268,7 +248,7 @@ pub(crate) fn add_autoindexes(
     alloc: Global,
     schema: &mut Schema,
     number: u32,
-    keys: &[Key],
+    keys: &[KeyConstraint],
 ) -> Result<(), Memory>
     requires { number < length schema.old.tables }
     ensures { OnOk result (schema.new ≡ meant.with_autoindexes schema.old number keys.now) }

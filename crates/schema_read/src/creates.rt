@@ -8,9 +8,11 @@ ghost use Rattle.schema_read.specs.Creates as meant;
 
 use crate::autoindexes::{add_autoindexes, add_sound_index, index_columns};
 use crate::state::{State, add_unread_name, has_room, is_refused, pass_statement};
-use schema_model::{Columns, Found, Index, IndexColumns, add_table, find_table, name_taken};
+use schema_model::{
+    COLUMN_LIMIT, Columns, Found, Index, IndexColumns, add_table, find_table, name_taken,
+};
 use schema_text::{
-    IndexHead, Named, TableText, cut_at_commas, find_entries, read_entries, read_table,
+    IndexHead, NameAndRest, TableText, cut_at_commas, find_entries, read_entries, read_table,
 };
 use sql_tokens::{Token, token_value};
 use sql_value::{Bytes, Items, Memory, fold};
@@ -38,7 +40,7 @@ fn create_named(
     text: &[u8],
     state: &mut State,
     name: Bytes,
-    named: Named,
+    named: NameAndRest,
 ) -> Result<(), Memory>
     requires { is_refused state.old.schema name ≡ false }
     ensures { OnOk result (state.new ≡ meant.create_named text.now state.old name
@@ -55,7 +57,7 @@ pub(crate) fn apply_table(
     alloc: Global,
     text: &[u8],
     state: &mut State,
-    named: Named,
+    named: NameAndRest,
 ) -> Result<(), Memory>
     ensures { OnOk result (state.new ≡ meant.apply_table text.now state.old
         (seen_named named.entry)) }
@@ -72,7 +74,7 @@ pub(crate) fn apply_unread(
     alloc: Global,
     text: &[u8],
     state: &mut State,
-    named: Named,
+    named: NameAndRest,
 ) -> Result<(), Memory>
     ensures { OnOk result (state.new ≡ meant.apply_unread text.now state.old
         (seen_named named.entry)) }
@@ -93,7 +95,7 @@ fn listed_columns(
 ) -> Result<Option<IndexColumns>, Memory>
     ensures { IfOk result (λ found. found ≡ meant.listed_columns text.now columns.now list.now) }
 {
-    if columns.as_slice().len() > 2000 {
+    if columns.as_slice().len() > COLUMN_LIMIT {
         return Err(Memory);
     }
     let parts = cut_at_commas(alloc, text, list)?;

@@ -16,6 +16,10 @@ use schema_text::{create_index_head, create_table_head, create_unread_head};
 use sql_lex::{Span, Token, lex, run_tokens, statements};
 use sql_value::Memory;
 use std::alloc::Global;
+use thiserror::Error;
+
+/// How many tables a dump may name, read and unread together.
+const TABLE_LIMIT: u64 = 1_000;
 
 /// What a dump holds: its schema, the rows of the tables that are read, the figures of
 /// `sqlite_stat1`, and how many statements and rows are passed over.
@@ -29,11 +33,13 @@ pub struct Dump {
 }
 
 /// Why a dump isn't read.
-#[derive(Clone, Copy, Debug, PartialEq, Eq)]
+#[derive(Clone, Copy, Debug, PartialEq, Eq, Error)]
 pub enum ReadDumpFault {
     /// It names more than 1,000 tables, read and unread together.
+    #[error("too many tables")]
     TooManyTables,
     /// Want of memory.
+    #[error("out of memory")]
     Memory,
 }
 
@@ -163,12 +169,12 @@ pub fn read_dump(alloc: Global, text: &[u8]) -> Result<Dump, ReadDumpFault>
     ensures rows { IfOk result (λ dump. AllByRecursion (λ rows. length rows < 2 ^ 32) dump.rows) }
     ensures unusable { IfOk result (λ dump. AllByRecursion IsEmptyUnlessUsable
         dump.schema.indexes) }
-    ensures few { IfOk result (λ dump. meant.table_total dump.schema ≤ 1000) }
+    ensures few { IfOk result (λ dump. meant.table_total dump.schema ≤ meant.table_limit) }
     ensures room { IfOk result (λ dump. size dump.schema < 10 ^ 9) }
     ensures fault { IfErr result (meant.IsFaultOf (meant.dump_of text.now)) }
 {
     let state = read_text(alloc, text)?;
-    if table_total(&state.schema) > 1000 {
+    if table_total(&state.schema) > TABLE_LIMIT {
         return Err(ReadDumpFault::TooManyTables);
     }
     if !has_room(&state.schema) {

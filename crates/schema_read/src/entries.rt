@@ -111,16 +111,10 @@ pub(crate) fn row_values(
     if columns.len() != parts.len() {
         return Ok(None);
     }
-    let Ok(mut values) = Vec::with_capacity(alloc, columns.len()) else {
-        return Err(Memory);
-    };
+    let mut values = Vec::with_capacity(alloc, columns.len())?;
     for (number, column) in columns.iter().enumerate() {
         match column_value(alloc, text, column, parts[number])? {
-            Some(value) => {
-                if values.push(value).is_err() {
-                    return Err(Memory);
-                }
-            }
+            Some(value) => values.push(value)?,
             None => return Ok(None),
         }
     }

@@ -7,7 +7,7 @@ ghost use Rattle.schema_read.specs.Inserts as meant;
 use crate::entries::{entry_value, row_values};
 use crate::state::{Given, State, pass_row, pass_statement};
 use schema_model::{Found, find_table};
-use schema_text::{Named, after_word, cut_at_commas, first_enclosed, first_name};
+use schema_text::{NameAndRest, after_word, cut_at_commas, first_enclosed, first_name};
 use sql_tokens::{Token, token_value};
 use sql_value::{Bytes, Memory, Value, fold, is_same_word};
 use std::alloc::Global;
@@ -29,7 +29,7 @@ pub(crate) fn insert_head<'t>(text: &[u8], tokens: &'t [Token]) -> Option<Insert
     values_of(text, table)
 }
 
-fn values_of<'t>(text: &[u8], table: Named<'t>) -> Option<InsertHead<'t>>
+fn values_of<'t>(text: &[u8], table: NameAndRest<'t>) -> Option<InsertHead<'t>>
     ensures { option_map meant.seen_insert result
         ≡ meant.values_of text.now (seen_named table.entry) }
 {

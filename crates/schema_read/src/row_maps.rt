@@ -68,9 +68,7 @@ impl RowMap {
             ≡ insert_row rowid (map plain_value values.items) self.old) }
         ensures err { OnErr result (self.new ≡ self.old) }
     {
-        let Ok(_) = self.rows.insert(rowid, values) else {
-            return Err(Memory);
-        };
+        self.rows.insert(rowid, values)?;
         Ok(())
     }
 
@@ -116,10 +114,7 @@ impl RowMaps {
     pub(crate) fn add_table(&mut self, alloc: Global) -> Result<(), Memory>
         ensures { OnOk result (self.new ≡ self.old ++ [] ∷ []) }
     {
-        match self.held.push(RowMap::new(alloc)) {
-            Ok(()) => Ok(()),
-            Err(_) => Err(Memory),
-        }
+        Ok(self.held.push(RowMap::new(alloc))?)
     }
 
     pub(crate) fn has(&self, table: u32, rowid: i64) -> bool

@@ -13,6 +13,7 @@ use Rattle.schema_model.proofs.NameKeys.{list_any-map}
 use Rattle.schema_model.proofs.Sound.{differ_between}
 use Rattle.schema_text.specs.TableFacts.{AreColumns}
 use Rattle.schema_model.specs.Columns.{as_rowid}
+use Rattle.schema_model.specs.Schemas.{column_limit}
 use Rattle.schema_model.proofs.RowidColumns.{length_kept}
 use Rattle.schema_text.specs.TableTexts.{with_alias}
 use Rattle.schema_text.specs.Keys.{is_constraint}
@@ -54,14 +55,15 @@ below : (m n : ℕ) → nat_le m n ≡ false → n < m
 below m n h = grind arith
 
 pushed : (cs : List Column) (c : Column) → AreColumns cs
-    → (nat_le 2000 (length cs) || is_some (position (has_column_name (folded_bytes c.name)) cs))
+    → (nat_le column_limit (length cs)
+    || is_some (position (has_column_name (folded_bytes c.name)) cs))
     ≡ false → AreColumns (cs ++ c ∷ [])
 pushed cs c ok e =
     let name = folded_bytes c.name in
     let free : has_name name (column_names cs) ≡ false =
     list_any-map (λ (x : Column). folded_bytes x.name) (is_name name) cs
     ∙ sym (is_found (has_column_name name) cs) ∙ or_right _ _ e in
-    let fewer = below 2000 (length cs) (or_left _ _ e) in
+    let fewer = below column_limit (length cs) (or_left _ _ e) in
     record {
       few = rw (length_push cs c) (omega (arith, fewer));
       differ = subst Differ (sym (map-append (λ (x : Column). folded_bytes x.name) cs (c ∷ [])))
@@ -75,7 +77,8 @@ Grown cs more None = Unit {0}
 Grown cs more (Some ds) = AreColumns ds × (length ds ≡ length cs + more)
 
 grown_column : (cs : List Column) (c : Column) (b : Bool)
-    → (nat_le 2000 (length cs) || is_some (position (has_column_name (folded_bytes c.name)) cs)) ≡ b
+    → (nat_le column_limit (length cs)
+    || is_some (position (has_column_name (folded_bytes c.name)) cs)) ≡ b
     → AreColumns cs → Grown cs 1 (cond b None (Some (cs ++ c ∷ [])))
 grown_column cs c true e ok = tt
 grown_column cs c false e ok = (pushed cs c ok e, length_push cs c)
@@ -87,7 +90,7 @@ grown_item : (text : List ℕ) (cs : List Column) (item : List Token) (b : Bool)
 grown_item text cs item true o ok = (ok, omega arith)
 grown_item text cs item false None ok = tt
 grown_item text cs item false (Some c) ok =
-    grown_column cs c (nat_le 2000 (length cs)
+    grown_column cs c (nat_le column_limit (length cs)
     || is_some (position (has_column_name (folded_bytes c.name)) cs)) refl ok
 
 flag_count : (b x y : Bool) → length (cond b [] (x ∷ [])) ≡ length (cond b [] (y ∷ []))

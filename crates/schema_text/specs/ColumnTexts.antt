@@ -19,7 +19,7 @@ use Rattle.sql_tokens.specs.declared.token.Token.{Token}
 use Rattle.schema_model.specs.declared.columns.Column.{Column}
 use Rattle.schema_text.specs.Words.{is_word, is_name}
 use Rattle.schema_text.specs.Groups.{next_level}
-use Rattle.schema_text.specs.Cursor.{Named, first_name}
+use Rattle.schema_text.specs.Cursor.{NameAndRest, first_name}
 use Rattle.schema_text.specs.Heads.{or_else}
 
 abbrev pub is_rest_word : Keyword → Bool
@@ -111,7 +111,7 @@ abbrev pub declared_affinity : List ℕ → Affinity
 declared_affinity declared = coded_affinity (affinity_of declared)
 
 -- a column by its name and what stands behind it
-abbrev pub column_after : List ℕ → Named → Option Column
+abbrev pub column_after : List ℕ → NameAndRest → Option Column
 column_after text named =
     cond (is_generated text 0 (column_rest text named.rest)) None (
     option_map (λ coll. record {

@@ -3,13 +3,13 @@ use Rattle.std.specs.Prelude.{ℕ, ◌&&◌, cond, codes, List, [], ◌∷◌, O
 use Rattle.std.specs.Prelude.{option_and_then}
 use Rattle.sql_tokens.specs.declared.token.Token.{Token}
 use Rattle.schema_text.specs.Words.{is_word, is_mark, is_name}
-use Rattle.schema_text.specs.declared.cursor.Named as code
+use Rattle.schema_text.specs.declared.cursor.NameAndRest as code
 
-pub record Named : Type 0 where
+pub record NameAndRest : Type 0 where
   pub name : Token
   pub rest : List Token
 
-abbrev pub seen_named : code.Named → Named
+abbrev pub seen_named : code.NameAndRest → NameAndRest
 seen_named named = record { name = named.name; rest = named.rest.now }
 
 abbrev pub after_word : List ℕ → List ℕ → List Token → Option (List Token)
@@ -32,7 +32,7 @@ after_if_not_exists text ts =
 abbrev pub past_if_not_exists : List ℕ → List Token → List Token
 past_if_not_exists text ts = unwrap_or (after_if_not_exists text ts) ts
 
-abbrev pub first_name : List Token → Option Named
+abbrev pub first_name : List Token → Option NameAndRest
 first_name [] = None
 first_name (t ∷ ts) = cond (is_name t) (Some (record { name = t; rest = ts })) None
 
@@ -41,5 +41,5 @@ abbrev pub past_qualifier : List ℕ → List Token → List Token
 past_qualifier text (a ∷ b ∷ ts) = cond (is_name a && is_mark text 46 b) ts (a ∷ b ∷ ts)
 past_qualifier text ts = ts
 
-abbrev pub qualified_name : List ℕ → List Token → Option Named
+abbrev pub qualified_name : List ℕ → List Token → Option NameAndRest
 qualified_name text ts = first_name (past_qualifier text ts)

@@ -9,7 +9,7 @@ use Rattle.sql_tokens.specs.declared.token.Token.{Token}
 use Rattle.schema_model.specs.Columns.{has_column_name}
 use Rattle.schema_model.specs.declared.columns.Column.{Column}
 use Rattle.schema_text.specs.Lists.{with_first, traverse}
-use Rattle.schema_text.specs.Cursor.{Named, after_word, past_word, first_name}
+use Rattle.schema_text.specs.Cursor.{NameAndRest, after_word, past_word, first_name}
 use Rattle.schema_text.specs.ColumnTexts.{collation_here, collation_at}
 use Rattle.schema_text.specs.declared.entries.EntryText.{EntryText}
 use Rattle.schema_text.specs.declared.entries.KeyColumn.{KeyColumn}
@@ -32,7 +32,7 @@ abbrev pub entry_unless : EntryText → List Token → Option EntryText
 entry_unless entry [] = Some entry
 entry_unless entry (t ∷ ts) = None
 
-abbrev pub entry_after : List ℕ → Bool → Named → Option EntryText
+abbrev pub entry_after : List ℕ → Bool → NameAndRest → Option EntryText
 entry_after text may named =
     entry_unless (record {
       name = named.name;

@@ -2,7 +2,7 @@
 use Rattle.std.specs.Prelude.{ℕ, Bool, true, false, codes, List, [], ◌∷◌, Option, None, Some}
 use Rattle.std.specs.Prelude.{option_and_then, option_map}
 use Rattle.sql_tokens.specs.declared.token.Token.{Token}
-use Rattle.schema_text.specs.Cursor.{Named, after_word, past_temporary, past_if_not_exists}
+use Rattle.schema_text.specs.Cursor.{NameAndRest, after_word, past_temporary, past_if_not_exists}
 use Rattle.schema_text.specs.Cursor.{first_name, qualified_name}
 use Rattle.schema_text.specs.Groups.{first_enclosed}
 use Rattle.schema_text.specs.declared.heads.IndexHead as code
@@ -12,7 +12,7 @@ or_else None other = other
 or_else (Some x) other = Some x
 
 -- CREATE, TEMP or TEMPORARY or neither, TABLE, IF NOT EXISTS or not, and the name
-abbrev pub create_table_head : List ℕ → List Token → Option Named
+abbrev pub create_table_head : List ℕ → List Token → Option NameAndRest
 create_table_head text ts =
     option_and_then (λ a. option_and_then (λ b. qualified_name text (past_if_not_exists text b))
     (after_word text (codes "table") (past_temporary text a))) (after_word text (codes "create") ts)
@@ -26,7 +26,7 @@ after_unread_kind text ts =
     or_else (after_virtual_table text ts) (after_word text (codes "view") (past_temporary text ts))
 
 -- CREATE, VIRTUAL TABLE or VIEW, IF NOT EXISTS or not, and the name
-abbrev pub create_unread_head : List ℕ → List Token → Option Named
+abbrev pub create_unread_head : List ℕ → List Token → Option NameAndRest
 create_unread_head text ts =
     option_and_then (λ a. option_and_then (λ b. qualified_name text (past_if_not_exists text b))
     (after_unread_kind text a)) (after_word text (codes "create") ts)

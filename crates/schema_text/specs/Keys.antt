@@ -14,7 +14,7 @@ use Rattle.schema_text.specs.Groups.{next_level, first_enclosed, parts_of}
 use Rattle.schema_text.specs.ColumnTexts.{column_rest}
 use Rattle.schema_text.specs.Entries.{begins_desc, entries_of, key_columns}
 use Rattle.schema_text.specs.declared.entries.EntryText.{EntryText}
-use Rattle.schema_text.specs.declared.keys.Key.{Key}
+use Rattle.schema_text.specs.declared.keys.KeyConstraint.{KeyConstraint}
 use Rattle.schema_text.specs.declared.keys.KeyMark.{KeyMark}
 use Rattle.schema_text.specs.declared.keys.KeyList as code
 
@@ -29,7 +29,7 @@ key_mark text (t ∷ ts) =
     cond (is_word text (codes "primary") t) (primary_mark text ts) (
     cond (is_word text (codes "unique") t) (Some (record { primary = false; desc = false })) None)
 
-abbrev pub marked_key : ℕ → Option KeyMark → List Key
+abbrev pub marked_key : ℕ → Option KeyMark → List KeyConstraint
 marked_key number None = []
 marked_key number (Some mark) =
     record {
@@ -38,11 +38,11 @@ marked_key number (Some mark) =
       columns = record { column = number; coll = None; desc = mark.desc } ∷ [];
     } ∷ []
 
-abbrev pub own_key : List ℕ → ℕ → ℕ → List Token → List Key
+abbrev pub own_key : List ℕ → ℕ → ℕ → List Token → List KeyConstraint
 own_key text number level ts = cond (level == 0) (marked_key number (key_mark text ts)) []
 
 -- the keys that stand behind a column's type, outside parentheses, of which so many are open
-abbrev pub own_keys : List ℕ → ℕ → ℕ → List Token → List Key
+abbrev pub own_keys : List ℕ → ℕ → ℕ → List Token → List KeyConstraint
 own_keys text number level [] = []
 own_keys text number level (t ∷ ts) =
     own_key text number level (t ∷ ts) ++ own_keys text number (next_level text level t) ts
@@ -95,20 +95,20 @@ abbrev pub key_list : List ℕ → List Token → Option KeyList
 key_list text ts = key_list_after text ts (after_primary_key text ts)
 
 abbrev pub keys_of_entries : List ℕ → List Column → Bool → Option (List EntryText)
-    → Option (List Key)
+    → Option (List KeyConstraint)
 keys_of_entries text columns primary None = Some []
 keys_of_entries text columns primary (Some entries) =
     option_map (λ found. record { primary = primary; own = false; columns = found } ∷ [])
     (key_columns text columns entries)
 
-abbrev pub keys_of_list : List ℕ → List Column → Option KeyList → Option (List Key)
+abbrev pub keys_of_list : List ℕ → List Column → Option KeyList → Option (List KeyConstraint)
 keys_of_list text columns None = Some []
 keys_of_list text columns (Some front) =
     keys_of_entries text columns front.primary
     (entries_of text front.primary (parts_of text front.list))
 
 -- the key of a table's constraint, if it counts; nothing where a column or a collation isn't known
-abbrev pub table_keys : List ℕ → List Column → List Token → Option (List Key)
+abbrev pub table_keys : List ℕ → List Column → List Token → Option (List KeyConstraint)
 table_keys text columns item = keys_of_list text columns
     (key_list text (past_constraint_name text item))
 
@@ -116,7 +116,7 @@ abbrev pub behind_name : List Token → List Token
 behind_name [] = []
 behind_name (t ∷ ts) = ts
 
-abbrev pub item_keys : List ℕ → List Column → ℕ → List Token → Option (List Key)
+abbrev pub item_keys : List ℕ → List Column → ℕ → List Token → Option (List KeyConstraint)
 item_keys text columns number item =
     cond (is_constraint text item) (table_keys text columns item)
     (Some (own_keys text number 0 (column_rest text (behind_name item))))
@@ -125,9 +125,10 @@ abbrev pub next_number : List ℕ → ℕ → List Token → ℕ
 next_number text number item = cond (is_constraint text item) number (number + 1)
 
 -- the keys of the items in order; nothing where a column or a collation isn't known
-abbrev pub keys_of : List ℕ → List Column → ℕ → List (List Token) → Option (List Key)
-keys_of text columns number [] = Some []
-keys_of text columns number (item ∷ items) =
+abbrev pub key_constraints_of : List ℕ → List Column → ℕ → List (List Token)
+    → Option (List KeyConstraint)
+key_constraints_of text columns number [] = Some []
+key_constraints_of text columns number (item ∷ items) =
     option_and_then (λ added. option_map (λ rest. added ++ rest)
-    (keys_of text columns (next_number text number item) items))
+    (key_constraints_of text columns (next_number text number item) items))
     (item_keys text columns number item)

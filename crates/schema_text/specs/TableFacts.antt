@@ -2,13 +2,13 @@
 use Rattle.std.specs.Prelude.{◌≤◌, List, length, Option, None, Some}
 use Rattle.schema_model.specs.Names.{Differ}
 use Rattle.schema_model.specs.Columns.{column_names}
-use Rattle.schema_model.specs.Schemas.{IsTable}
+use Rattle.schema_model.specs.Schemas.{IsTable, column_limit}
 use Rattle.schema_model.specs.declared.columns.Column.{Column}
 use Rattle.schema_text.specs.declared.table_texts.TableText.{TableText}
 
--- at most 2,000 columns, of names that differ
+-- no more columns than a table may have, of names that differ
 pub record AreColumns (columns : List Column) : Type 0 where
-  pub few : length columns ≤ 2000
+  pub few : length columns ≤ column_limit
   pub differ : Differ (column_names columns)
 
 abbrev pub IsSoundOption : Option TableText → Type 0

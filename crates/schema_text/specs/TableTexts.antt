@@ -8,21 +8,22 @@ use Rattle.sql_value.specs.Keywords.{same_word}
 use Rattle.sql_tokens.specs.TokenValues.{value_of}
 use Rattle.sql_tokens.specs.declared.token.Token.{Token}
 use Rattle.schema_model.specs.Columns.{has_column_name, as_rowid}
+use Rattle.schema_model.specs.Schemas.{column_limit}
 use Rattle.schema_model.specs.declared.columns.Column.{Column}
 use Rattle.schema_text.specs.Words.{is_word}
-use Rattle.schema_text.specs.Cursor.{Named}
+use Rattle.schema_text.specs.Cursor.{NameAndRest}
 use Rattle.schema_text.specs.Heads.{or_else}
 use Rattle.schema_text.specs.Groups.{first_enclosed, parts_of}
 use Rattle.schema_text.specs.ColumnTexts.{declared_type, column_of}
-use Rattle.schema_text.specs.Keys.{behind_name, is_constraint, keys_of}
+use Rattle.schema_text.specs.Keys.{behind_name, is_constraint, key_constraints_of}
 use Rattle.schema_text.specs.declared.entries.KeyColumn.{KeyColumn}
-use Rattle.schema_text.specs.declared.keys.Key.{Key}
+use Rattle.schema_text.specs.declared.keys.KeyConstraint.{KeyConstraint}
 use Rattle.schema_text.specs.declared.table_texts.TableText.{TableText}
 
--- at most 2,000 columns, of names that differ
+-- no more columns than a table may have, of names that differ
 abbrev pub with_column : List Column → Column → Option (List Column)
 with_column columns column =
-    cond (nat_le 2000 (length columns) || is_some
+    cond (nat_le column_limit (length columns) || is_some
     (position (has_column_name (folded_bytes column.name)) columns)) None
     (Some (columns ++ column ∷ []))
 
@@ -80,10 +81,10 @@ alias_of_columns flags own (column ∷ []) = alias_column flags own column
 alias_of_columns flags own _ = None
 
 -- a PRIMARY KEY of one INTEGER column, but for one with DESC at its column
-abbrev pub alias_of_key : List Bool → Key → Option ℕ
+abbrev pub alias_of_key : List Bool → KeyConstraint → Option ℕ
 alias_of_key flags key = cond key.primary (alias_of_columns flags key.own key.columns) None
 
-abbrev pub alias_of : List Bool → List Key → Option ℕ
+abbrev pub alias_of : List Bool → List KeyConstraint → Option ℕ
 alias_of flags [] = None
 alias_of flags (key ∷ keys) = or_else (alias_of_key flags key) (alias_of flags keys)
 
@@ -91,7 +92,7 @@ abbrev pub with_alias : List Column → Option ℕ → List Column
 with_alias columns None = columns
 with_alias columns (Some number) = as_rowid columns number
 
-abbrev pub made_table : List ℕ → Token → List Column → List Key → Option ℕ → TableText
+abbrev pub made_table : List ℕ → Token → List Column → List KeyConstraint → Option ℕ → TableText
 made_table text name columns keys alias =
     record {
       table = record {
@@ -107,10 +108,10 @@ table_of_items text name strict items =
     option_and_then (λ columns. cond (strict && has_any text items) None (
     option_and_then (λ keys. cond (nat_lt 1 (count_by (λ key. key.primary) keys)) None (
     Some (made_table text name columns keys (alias_of (integer_flags text items) keys))))
-    (keys_of text columns 0 items))) (columns_of text items)
+    (key_constraints_of text columns 0 items))) (columns_of text items)
 
 -- the table from its name on, where it is read
-abbrev pub table_of : List ℕ → Named → Option TableText
+abbrev pub table_of : List ℕ → NameAndRest → Option TableText
 table_of text named =
     option_and_then (λ enclosed. option_and_then
     (λ strict. table_of_items text named.name strict (parts_of text enclosed.inside))

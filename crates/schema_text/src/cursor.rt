@@ -7,7 +7,7 @@ use sql_tokens::Token;
 
 /// A name, and the tokens behind it.
 #[derive(Clone, Copy)]
-pub struct Named<'t> {
+pub struct NameAndRest<'t> {
     pub name: Token,
     pub rest: &'t [Token],
 }
@@ -75,13 +75,13 @@ fn after_if_not_exists<'t>(text: &[u8], tokens: &'t [Token]) -> Option<&'t [Toke
 }
 
 /// The name that comes first, if one does.
-pub fn first_name(tokens: &[Token]) -> Option<Named<'_>>
+pub fn first_name(tokens: &[Token]) -> Option<NameAndRest<'_>>
     ensures { option_map meant.seen_named result ≡ meant.first_name tokens.now }
 {
     match tokens {
         [first, rest @ ..] => {
             if is_name(*first) {
-                Some(Named { name: *first, rest })
+                Some(NameAndRest { name: *first, rest })
             } else {
                 None
             }
@@ -107,7 +107,7 @@ fn past_qualifier<'t>(text: &[u8], tokens: &'t [Token]) -> &'t [Token]
 }
 
 /// The name that comes first, behind that of a schema or not.
-pub fn qualified_name<'t>(text: &[u8], tokens: &'t [Token]) -> Option<Named<'t>>
+pub fn qualified_name<'t>(text: &[u8], tokens: &'t [Token]) -> Option<NameAndRest<'t>>
     ensures { option_map meant.seen_named result ≡ meant.qualified_name text.now tokens.now }
 {
     first_name(past_qualifier(text, tokens))

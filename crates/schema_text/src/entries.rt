@@ -1,10 +1,11 @@
 //! Entries of the lists of columns in keys and indexes.
 ghost use Rattle.std.specs.Prelude.{◌≡◌, ◌+◌, ◌<◌, ◌==◌, ◌&&◌, map, length, ◌≤◌, IfOk};
 ghost use Rattle.schema_text.specs.Cursor.{seen_named};
+ghost use Rattle.schema_model.specs.Schemas.{column_limit};
 ghost use Rattle.schema_text.specs.Entries as meant;
 
 use crate::column_texts::{collation_at, collation_here};
-use crate::cursor::{Named, after_word, first_name, past_word};
+use crate::cursor::{NameAndRest, after_word, first_name, past_word};
 use schema_model::Columns;
 use sql_tokens::{Token, token_value};
 use sql_value::{Collation, Items, Memory, fold};
@@ -79,7 +80,7 @@ pub fn read_entry(text: &[u8], autoincrement: bool, part: &[Token]) -> Option<En
     entry_behind(text, autoincrement, named)
 }
 
-fn entry_behind(text: &[u8], autoincrement: bool, named: Named) -> Option<EntryText>
+fn entry_behind(text: &[u8], autoincrement: bool, named: NameAndRest) -> Option<EntryText>
     ensures { result ≡ meant.entry_after text.now autoincrement (seen_named named.entry) }
 {
     let behind = past_collation(text, named.rest);
@@ -117,7 +118,7 @@ pub fn find_entry(
     columns: &Columns,
     entry: EntryText,
 ) -> Result<Option<KeyColumn>, Memory>
-    requires { length columns.now ≤ 2000 }
+    requires { length columns.now ≤ column_limit }
     ensures { IfOk result (λ column. column ≡ meant.key_column text.now columns.now entry) }
 {
     let name = token_value(alloc, text, entry.name)?;
@@ -170,7 +171,7 @@ pub fn find_entries(
     columns: &Columns,
     entries: &[EntryText],
 ) -> Result<Option<Items<KeyColumn>>, Memory>
-    requires { length columns.now ≤ 2000 }
+    requires { length columns.now ≤ column_limit }
     ensures { IfOk result (λ found. found ≡ meant.key_columns text.now columns.now entries.now) }
 {
     let mut found = Items::new(alloc);

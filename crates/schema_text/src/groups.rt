@@ -101,16 +101,12 @@ pub fn cut_at_commas<'t>(
     let mut level = 0;
     for (place, token) in tokens.iter().enumerate() {
         if cuts_here(text, level, *token) {
-            let Ok(()) = parts.push(tokens_between(tokens, start, place)) else {
-                return Err(Memory);
-            };
+            parts.push(tokens_between(tokens, start, place))?;
             start = place + 1;
             continue;
         }
         level = next_level(text, level, *token);
     }
-    match parts.push(tokens_from(tokens, start)) {
-        Ok(()) => Ok(parts),
-        Err(_) => Err(Memory),
-    }
+    parts.push(tokens_from(tokens, start))?;
+    Ok(parts)
 }

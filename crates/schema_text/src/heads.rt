@@ -4,14 +4,14 @@ ghost use Rattle.schema_text.specs.Cursor.{seen_named};
 ghost use Rattle.schema_text.specs.Heads as meant;
 
 use crate::cursor::{
-    Named, after_word, first_name, past_if_not_exists, past_temporary, qualified_name,
+    NameAndRest, after_word, first_name, past_if_not_exists, past_temporary, qualified_name,
 };
 use crate::groups::first_enclosed;
 use sql_tokens::Token;
 
 /// The name of the table in CREATE TABLE, and what stands behind it
 /// (<https://sqlite.org/lang_createtable.html>).
-pub fn create_table_head<'t>(text: &[u8], tokens: &'t [Token]) -> Option<Named<'t>>
+pub fn create_table_head<'t>(text: &[u8], tokens: &'t [Token]) -> Option<NameAndRest<'t>>
     ensures { option_map seen_named result ≡ meant.create_table_head text.now tokens.now }
 {
     let behind_create = after_word(text, b"create", tokens)?;
@@ -39,7 +39,7 @@ fn after_unread_kind<'t>(text: &[u8], tokens: &'t [Token]) -> Option<&'t [Token]
 
 /// The name in CREATE VIEW (<https://sqlite.org/lang_createview.html>) and CREATE VIRTUAL TABLE
 /// (<https://sqlite.org/lang_createvtab.html>).
-pub fn create_unread_head<'t>(text: &[u8], tokens: &'t [Token]) -> Option<Named<'t>>
+pub fn create_unread_head<'t>(text: &[u8], tokens: &'t [Token]) -> Option<NameAndRest<'t>>
     ensures { option_map seen_named result ≡ meant.create_unread_head text.now tokens.now }
 {
     let behind_create = after_word(text, b"create", tokens)?;

@@ -1,6 +1,7 @@
 //! PRIMARY KEY and UNIQUE, of a column or of a table.
 ghost use Rattle.std.specs.Prelude.{◌≡◌, ◌+◌, ◌<◌, ◌≤◌, ◌^◌, ◌++◌, ◌-◌, length, map, option_map};
 ghost use Rattle.std.specs.Prelude.{Some, None, OnOk, IfOk, if◌then◌else◌};
+ghost use Rattle.schema_model.specs.Schemas.{column_limit};
 ghost use Rattle.schema_text.specs.Keys as meant;
 
 use crate::column_texts::column_rest;
@@ -15,7 +16,7 @@ use std::alloc::Global;
 
 /// A PRIMARY KEY or a UNIQUE.
 #[derive(Drop)]
-pub struct Key {
+pub struct KeyConstraint {
     /// Whether it is a PRIMARY KEY.
     pub primary: bool,
     /// Whether it stands at its column.
@@ -68,7 +69,7 @@ fn append_own_key(
     number: u32,
     level: usize,
     tokens: &[Token],
-    keys: &mut Items<Key>,
+    keys: &mut Items<KeyConstraint>,
 ) -> Result<(), Memory>
     ensures { OnOk result (keys.new ≡ keys.old ++ meant.own_key text.now number level tokens.now) }
 {
@@ -84,7 +85,7 @@ fn append_own_key(
         coll: None,
         desc: mark.desc,
     })?;
-    keys.push(Key {
+    keys.push(KeyConstraint {
         primary: mark.primary,
         own: true,
         columns,
@@ -97,7 +98,7 @@ fn append_own_keys(
     text: &[u8],
     number: u32,
     rest: &[Token],
-    keys: &mut Items<Key>,
+    keys: &mut Items<KeyConstraint>,
 ) -> Result<(), Memory>
     ensures { OnOk result (keys.new ≡ keys.old ++ meant.own_keys text.now number 0 rest.now) }
 {
@@ -196,9 +197,9 @@ fn append_table_key(
     text: &[u8],
     columns: &Columns,
     item: &[Token],
-    keys: &mut Items<Key>,
+    keys: &mut Items<KeyConstraint>,
 ) -> Result<bool, Memory>
-    requires { length columns.now ≤ 2000 }
+    requires { length columns.now ≤ column_limit }
     ensures { IfOk result (λ known. (if known then Some keys.new else None) ≡ option_map
         (λ added. keys.old ++ added) (meant.table_keys text.now columns.now item.now)) }
 {
@@ -212,7 +213,7 @@ fn append_table_key(
     let Some(found) = find_entries(alloc, text, columns, entries.as_slice())? else {
         return Ok(false);
     };
-    keys.push(Key {
+    keys.push(KeyConstraint {
         primary: front.primary,
         own: false,
         columns: found,
@@ -237,9 +238,9 @@ fn append_item_keys(
     columns: &Columns,
     number: u32,
     item: &[Token],
-    keys: &mut Items<Key>,
+    keys: &mut Items<KeyConstraint>,
 ) -> Result<bool, Memory>
-    requires { length columns.now ≤ 2000 }
+    requires { length columns.now ≤ column_limit }
     ensures { IfOk result (λ known. (if known then Some keys.new else None) ≡ option_map
         (λ added. keys.old ++ added) (meant.item_keys text.now columns.now number item.now)) }
 {
@@ -275,10 +276,10 @@ pub fn read_keys(
     text: &[u8],
     columns: &Columns,
     items: &[&[Token]],
-) -> Result<Option<Items<Key>>, Memory>
-    requires few { length columns.now ≤ 2000 }
+) -> Result<Option<Items<KeyConstraint>>, Memory>
+    requires few { length columns.now ≤ column_limit }
     requires small { length items.now < 2 ^ 32 }
-    ensures { IfOk result (λ keys. keys ≡ meant.keys_of text.now columns.now 0
+    ensures { IfOk result (λ keys. keys ≡ meant.key_constraints_of text.now columns.now 0
         (map (λ item. item.now) items.now)) }
 {
     let mut keys = Items::new(alloc);

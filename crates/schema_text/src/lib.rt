@@ -11,10 +11,10 @@ mod table_texts;
 mod words;
 
 pub use column_texts::{collation_at, collation_here, column_rest, declared_type, read_column};
-pub use cursor::{Named, after_word, first_name};
+pub use cursor::{NameAndRest, after_word, first_name};
 pub use entries::{EntryText, KeyColumn, find_entries, find_entry, read_entries, read_entry};
 pub use groups::{Enclosed, cut_at_commas, first_enclosed};
 pub use heads::{IndexHead, create_index_head, create_table_head, create_unread_head};
-pub use keys::{Key, KeyList, KeyMark, behind_name, is_constraint, read_keys};
+pub use keys::{KeyConstraint, KeyList, KeyMark, behind_name, is_constraint, read_keys};
 pub use table_texts::{TableText, read_table};
 pub use words::{is_mark, is_name, is_word};

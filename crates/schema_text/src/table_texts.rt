@@ -8,12 +8,12 @@ ghost use Rattle.schema_text.specs.TableFacts.{AreColumns, IsSoundOption};
 ghost use Rattle.schema_text.specs.TableTexts as meant;
 
 use crate::column_texts::{declared_type, read_column};
-use crate::cursor::Named;
+use crate::cursor::NameAndRest;
 use crate::entries::KeyColumn;
 use crate::groups::{cut_at_commas, first_enclosed};
-use crate::keys::{Key, behind_name, is_constraint, read_keys};
+use crate::keys::{KeyConstraint, behind_name, is_constraint, read_keys};
 use crate::words::is_word;
-use schema_model::{Column, Columns, Table};
+use schema_model::{COLUMN_LIMIT, Column, Columns, Table};
 use sql_tokens::{Token, token_value};
 use sql_value::{Items, Memory, fold, is_same_word};
 use std::alloc::Global;
@@ -22,7 +22,7 @@ use std::alloc::Global;
 #[derive(Drop)]
 pub struct TableText {
     pub table: Table,
-    pub keys: Items<Key>,
+    pub keys: Items<KeyConstraint>,
 }
 
 /// Appends a column, unless there are 2,000 or one of its name is there.
@@ -31,7 +31,7 @@ fn add_column(alloc: Global, columns: &mut Columns, column: Column) -> Result<bo
         ≡ meant.with_column columns.old column) }
 {
     let folded = fold(alloc, column.name.as_slice())?;
-    if columns.as_slice().len() >= 2000 || columns.find(folded.as_slice()).is_some() {
+    if columns.as_slice().len() >= COLUMN_LIMIT || columns.find(folded.as_slice()).is_some() {
         return Ok(false);
     }
     columns.push(column)?;
@@ -175,7 +175,7 @@ fn alias_column(flags: &[bool], own: bool, column: KeyColumn) -> Option<u32>
 
 /// The column that a key makes the rowid, if it does
 /// (<https://sqlite.org/lang_createtable.html>, "ROWIDs and the INTEGER PRIMARY KEY").
-fn alias_of_key(flags: &[bool], key: &Key) -> Option<u32>
+fn alias_of_key(flags: &[bool], key: &KeyConstraint) -> Option<u32>
     ensures { result ≡ meant.alias_of_key flags.now key.now }
 {
     if !key.primary {
@@ -188,7 +188,7 @@ fn alias_of_key(flags: &[bool], key: &Key) -> Option<u32>
 }
 
 /// The column that is the rowid, if one is.
-fn alias_of(flags: &[bool], keys: &[Key]) -> Option<u32>
+fn alias_of(flags: &[bool], keys: &[KeyConstraint]) -> Option<u32>
     ensures { result ≡ meant.alias_of flags.now keys.now }
 {
     for key in keys {
@@ -200,7 +200,7 @@ fn alias_of(flags: &[bool], keys: &[Key]) -> Option<u32>
     None
 }
 
-fn primary_count(keys: &[Key]) -> usize
+fn primary_count(keys: &[KeyConstraint]) -> usize
     ensures { result ≡ count_by (λ key. key.primary) keys.now }
 {
     keys.iter().filter(|key| key.primary).count()
@@ -227,7 +227,7 @@ fn finish_table(
     name: Token,
     columns: Columns,
     alias: Option<u32>,
-    keys: Items<Key>,
+    keys: Items<KeyConstraint>,
 ) -> Result<TableText, Memory>
     requires { AreColumns columns }
     ensures same { IfOk result (λ table. table
@@ -291,7 +291,11 @@ fn read_items(
 
 /// The table that CREATE TABLE makes, from its name on: none where its form isn't read
 /// (<https://sqlite.org/lang_createtable.html>).
-pub fn read_table(alloc: Global, text: &[u8], named: Named) -> Result<Option<TableText>, Memory>
+pub fn read_table(
+    alloc: Global,
+    text: &[u8],
+    named: NameAndRest,
+) -> Result<Option<TableText>, Memory>
     ensures same { IfOk result (λ table. table ≡ meant.table_of text.now (seen_named named.entry)) }
     ensures sound { IfOk result IsSoundOption }
 {

@@ -21,7 +21,7 @@ loop-place-preserved-then-cuts_here c =
     let now : Bor (List Token) → List Token = λ part. part.now in
     record {
       same =
-          ap (λ (parts : List (Bor (List Token))). map now parts ++ rest) c.in-Ok.ensures.items
+          ap (λ (parts : List (Bor (List Token))). map now parts ++ rest) c.in_ok-push.ensures.items
           ∙ ap (λ (parts : List (List Token)). parts ++ rest)
           (map-append now l.parts.items (c.tokens_between.result ∷ []))
           ∙ ap (λ (front : List Token). (map now l.parts.items ++ front ∷ []) ++ rest)

@@ -4,6 +4,6 @@ use Rattle.schema_read.proofs.autoindexes.Shapes.add.Goals as goal
 
 pub returns : goal.returns
 returns c =
-    ap (map (λ v. v.items)) c.in-Ok.ensures.keys
+    ap (map (λ v. v.items)) c.in_ok-insert.ensures.keys
     ∙ added c.self.inside.held.keys c.args.shape (rw c.self.view_is c.requires)
     ∙ rw c.self.view_is refl
