@@ -1,7 +1,7 @@
 pub mod Members
-pub mod Turns
-pub mod Parameters
+pub mod Named
 pub mod Bits
 pub mod Standings
 pub mod StandingTurns
 pub mod Fitting
+pub mod Plannable

@@ -11,12 +11,16 @@ use Rattle.sql_bound.specs.Expressions.{exprs, expr_of, plain_op, node_step, lis
 use Rattle.sql_bound.specs.declared.expression.BExpr.{BExpr}
 use Rattle.sql_bound.specs.declared.expression.BExpr.TheVariants as variant
 use Rattle.sql_bound.specs.declared.expression.BExpr.TheViews.{rolls-All, rolls-Any}
-use Rattle.sql_bound.specs.declared.expression.BExpr.TheViews.{rolls-OneOf, rolls-Cmp}
+use Rattle.sql_bound.specs.declared.expression.BExpr.TheViews.{rolls-OneOf, rolls-Cmp, rolls-Like}
 use Rattle.sql_bound.specs.declared.expression.BExpr.TheFolds.{fold-roll-BExpr, fold-BExprs}
 use Rattle.sql_bound.specs.declared.expression.BExpr.TheFolds.{fold-roll-BExprs}
 use Rattle.sql_bound.specs.declared.expression.BExprs.{BExprs}
 use Rattle.sql_bound.specs.declared.expression.BExpr.TheOpen as node
 use Rattle.sql_bound.specs.declared.expression.BExpr.TheShapes.{former-BExprs-members-at-2}
+
+-- the members of references, which a loop over them has yet to look at
+abbrev pub plain_members : List (Bor BExpr) → plain.BExprs
+plain_members rs = exprs (map expr_of (map (λ member. member.now) rs))
 
 -- members through their references, and then each as plain data
 mapped : (rs : List (Bor BExpr)) →
@@ -66,5 +70,13 @@ expr_of-Cmp op left right conv coll =
     ap expr_of (sym (rolls-Cmp op left right conv coll))
     ∙ fold-roll-BExpr plain.BExpr plain.BExprs node_step list_step
     (node.Cmp op left right conv coll)
+
+pub expr_of-Like : (negated : Bool) (left pattern : Bor BExpr)
+    → expr_of (variant.Like negated left pattern)
+    ≡ plain.Like negated (expr_of left.now) (expr_of pattern.now)
+expr_of-Like negated left pattern =
+    ap expr_of (sym (rolls-Like negated left pattern))
+    ∙ fold-roll-BExpr plain.BExpr plain.BExprs node_step list_step
+    (node.Like negated left pattern)
 
 pub ruleset seen_lists = (expr_of-All, expr_of-Any, expr_of-OneOf)

@@ -7,7 +7,7 @@ use Rattle.sql_bound.specs.declared.expression.BExpr.{BExpr}
 use Rattle.sql_bound.specs.declared.serving.Standing.{Standing}
 use Rattle.sql_bound.specs.Expressions.{expr_of}
 use Rattle.sql_bound.specs.Naming.{farther_of, standing_all}
-use Rattle.sql_bound.proofs.Turns.{plain_members}
+use Rattle.sql_bound.proofs.Members.{plain_members}
 use Rattle.sql_bound.proofs.Standings.{standing-append, farther_assoc}
 
 pub standing_turn : (mask item : ℕ) (members : List (Bor BExpr)) (i : ℕ) (d : Bor BExpr)

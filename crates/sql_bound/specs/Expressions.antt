@@ -37,6 +37,7 @@ node_step (node.Cmp op left right conv coll) =
     (plain_collation coll)
 node_step (node.OneOf negated left entries conv coll) =
     plain.OneOf negated left.now entries (option_map plain_affinity conv) (plain_collation coll)
+node_step (node.Like negated e pattern) = plain.Like negated e.now pattern.now
 node_step (node.IsNull negated e) = plain.IsNull negated e.now
 node_step (node.Not e) = plain.Not e.now
 node_step (node.All members) = plain.All members

@@ -6,11 +6,19 @@ use Rattle.sql_meaning.specs.Schemas.{Schema, Index, columns_of}
 use Rattle.sql_meaning.specs.Items.{Item, FitsExpr}
 use Rattle.sql_meaning.specs.Statements.{Bound, Conjunct, OwnersAreLeft, is_left}
 use Rattle.sql_meaning.specs.Statements.{table_of}
+use Rattle.sql_meaning.specs.Offers.{IsPlannable}
 use Rattle.schema_model.specs.declared.indexes.Index.{Index as NamedIndex}
 use Rattle.schema_model.specs.Schemas.{Schema as NamedSchema, with_index}
 use Rattle.schema_model.specs.PlainSchemas.{plain_schema}
 use Rattle.sql_meaning.specs.Expressions.{BExpr, BExprs, Lit, Param, Column, Rowid, Plus, Collate}
-use Rattle.sql_meaning.specs.Expressions.{Cmp, OneOf, IsNull, Not, All, Any, Nil, More, names}
+use Rattle.sql_meaning.specs.Expressions.{Cmp, OneOf, Like, IsNull, Not, All, Any, Nil, More, names}
+
+-- the most tables of FROM, and the most conditions that AND joins
+abbrev pub most_items : ℕ
+most_items = 64
+
+abbrev pub most_conjuncts : ℕ
+most_conjuncts = 256
 
 -- how many columns an item's table has
 abbrev pub width : Schema → List Item → ℕ → ℕ
@@ -31,6 +39,8 @@ abbrev mutual
       NamesExist schema items left × NamesExist schema items right
   NamesExist schema items (OneOf negated left entries entry_conversion collation) =
       NamesExist schema items left × AllNamesExist schema items entries
+  NamesExist schema items (Like negated e pattern) =
+      NamesExist schema items e × NamesExist schema items pattern
   NamesExist schema items (IsNull negated e) = NamesExist schema items e
   NamesExist schema items (Not e) = NamesExist schema items e
   NamesExist schema items (All es) = AllNamesExist schema items es
@@ -54,8 +64,8 @@ StaysLeft c =
 -- `needs` has for each item the columns that the statement needs of it
 pub record Fits (schema : Schema) (bound : Bound) (needs : List (List ℕ)) : Type 0 where
   pub some_item : 0 < length bound.items
-  pub few_items : length bound.items ≤ 64
-  pub few_conjuncts : length bound.conjuncts ≤ 256
+  pub few_items : length bound.items ≤ most_items
+  pub few_conjuncts : length bound.conjuncts ≤ most_conjuncts
   pub one_changed : bound.rowids ≡ true → length bound.items ≡ 1
   pub tables : AllByRecursion (λ i. i.table < length schema.tables) bound.items
   pub results : AllByRecursion (IsSound schema bound.items) bound.results
@@ -77,3 +87,9 @@ FitsWithIndexes =
     (schema : NamedSchema) (index : NamedIndex) (bound : Bound) (needs : List (List ℕ))
     → Fits (plain_schema schema) bound needs
     → Fits (plain_schema (with_index schema index)) bound needs
+
+-- a statement that fits a schema is one that the laws of plans speak of
+abbrev pub FittingArePlannable : Type 0
+FittingArePlannable =
+    (schema : Schema) (bound : Bound) (needs : List (List ℕ)) → Fits schema bound needs
+    → IsPlannable schema bound

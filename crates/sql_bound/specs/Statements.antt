@@ -11,7 +11,8 @@ use Rattle.sql_bound.specs.declared.statement.BItem.{BItem}
 use Rattle.sql_bound.specs.declared.statement.Conjunct.{Conjunct}
 use Rattle.sql_bound.specs.declared.statement.BKey.{BKey}
 use Rattle.sql_bound.specs.declared.statement.Bound.{Bound}
-use Rattle.sql_bound.specs.declared.statement.KeyExpr.{KeyExpr}
+use Rattle.sql_bound.specs.declared.key.KeyExpr.{KeyExpr}
+use Rattle.sql_bound.specs.declared.key.Keys.{Keys}
 
 abbrev pub item_of : BItem → plain_items.Item
 item_of i = record { table = i.table; cross = i.cross; left = i.left }
@@ -46,5 +47,8 @@ bound_of b = record {
 abbrev pub needs_of : Bound → List (List ℕ)
 needs_of b = map (λ columns. columns.now) b.needs.now
 
-abbrev pub key_of : KeyExpr → plain_paths.KeyExpr
-key_of k = record { expr = expr_of k.expr.now; conversion = option_map plain_affinity k.conv }
+abbrev pub key_expr_of : KeyExpr → plain_paths.KeyExpr
+key_expr_of k = record { expr = expr_of k.expr.now; conversion = option_map plain_affinity k.conv }
+
+abbrev pub key_exprs_of : Keys → List plain_paths.KeyExpr
+key_exprs_of list = map key_expr_of list.keys.now

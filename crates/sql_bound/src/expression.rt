@@ -39,6 +39,8 @@ pub enum BExpr<'a> {
         conv: Option<Affinity>,
         coll: Collation,
     },
+    /// LIKE: the left side, then the pattern.
+    Like(bool, &'a BExpr<'a>, &'a BExpr<'a>),
     IsNull(bool, &'a BExpr<'a>),
     Not(&'a BExpr<'a>),
     /// The AND of the members; true where there are none.

@@ -1,23 +1,26 @@
-//! Statements with their names bound, the values of their expressions, and which condition may
-//! serve which table.
+//! Statements with their names bound, the makers of their expressions, what an expression names,
+//! and which condition may serve which table.
 #![tactic(auto)]
 
-mod environment;
-mod evaluation;
+mod columns;
 mod expression;
-mod logic;
+mod key;
+mod naming;
 mod nodes;
 mod placed;
 mod placing;
-mod reading;
 mod serving;
 mod statement;
 
-pub use environment::{Env, Place};
-pub use evaluation::eval;
+pub use columns::{ColumnRef, TableColumn, bare_column, own_column, plain_column};
 pub use expression::{BExpr, BExprs};
-pub use nodes::{all, any, cmp, collate, is_null, not, one_of, plus};
+pub use key::{KeyExpr, Keys};
+pub use naming::names_item;
+pub use nodes::{all, any, cmp, collate, is_null, like, not, one_of, plus};
 pub use placed::{no_bit_is_no_item, with_item};
-pub use placing::{place_expr, place_list};
+pub use placing::place_list;
 pub use serving::{first_at, may_derive, may_serve};
-pub use statement::{BItem, BKey, Bound, Conjunct, KeyExpr, added_indexes_keep_fits};
+pub use statement::{
+    BItem, BKey, Bound, Conjunct, MOST_CONJUNCTS, MOST_ITEMS, added_indexes_keep_fits,
+    fitting_statements_are_plannable,
+};

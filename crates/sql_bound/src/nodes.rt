@@ -6,16 +6,16 @@ ghost use Rattle.sql_value.specs.View.{plain_affinity, plain_collation};
 ghost use Rattle.sql_bound.specs.Expressions.{expr_of, exprs, plain_op};
 
 use crate::BExpr;
-use crate::placing::{place_expr, place_list};
+use crate::placing::place_list;
 use bumpalo::Bump;
-use sql_tree::Op;
+use sql_tree::{Op, place};
 use sql_value::{Affinity, Collation, Conversions, Memory};
 
 /// Unary `+`.
 pub fn plus<'a>(arena: &'a Bump, inner: BExpr<'a>) -> Result<BExpr<'a>, Memory>
     ensures { IfOk result (λ made. expr_of made ≡ meant.Plus (expr_of inner.entry)) }
 {
-    Ok(BExpr::Plus(place_expr(arena, inner)?))
+    Ok(BExpr::Plus(place(arena, inner)?))
 }
 
 /// An expression under a collation.
@@ -23,7 +23,7 @@ pub fn collate<'a>(arena: &'a Bump, inner: BExpr<'a>, coll: Collation) -> Result
     ensures { IfOk result (λ made.
         expr_of made ≡ meant.Collate (expr_of inner.entry) (plain_collation coll)) }
 {
-    Ok(BExpr::Collate(place_expr(arena, inner)?, coll))
+    Ok(BExpr::Collate(place(arena, inner)?, coll))
 }
 
 /// A comparison of two expressions, with what is applied to each and their collation.
@@ -42,8 +42,8 @@ pub fn cmp<'a>(
 {
     Ok(BExpr::Cmp {
         op,
-        left: place_expr(arena, left)?,
-        right: place_expr(arena, right)?,
+        left: place(arena, left)?,
+        right: place(arena, right)?,
         conv,
         coll,
     })
@@ -65,25 +65,38 @@ pub fn one_of<'a>(
 {
     Ok(BExpr::OneOf {
         not: negated,
-        left: place_expr(arena, left)?,
+        left: place(arena, left)?,
         entries: place_list(arena, entries)?,
         conv,
         coll,
     })
 }
 
+/// `left LIKE pattern`, or its NOT form.
+pub fn like<'a>(
+    arena: &'a Bump,
+    negated: bool,
+    left: BExpr<'a>,
+    pattern: BExpr<'a>,
+) -> Result<BExpr<'a>, Memory>
+    ensures { IfOk result (λ made.
+        expr_of made ≡ meant.Like negated (expr_of left.entry) (expr_of pattern.entry)) }
+{
+    Ok(BExpr::Like(negated, place(arena, left)?, place(arena, pattern)?))
+}
+
 /// `inner IS NULL`, or `inner IS NOT NULL`.
 pub fn is_null<'a>(arena: &'a Bump, negated: bool, inner: BExpr<'a>) -> Result<BExpr<'a>, Memory>
     ensures { IfOk result (λ made. expr_of made ≡ meant.IsNull negated (expr_of inner.entry)) }
 {
-    Ok(BExpr::IsNull(negated, place_expr(arena, inner)?))
+    Ok(BExpr::IsNull(negated, place(arena, inner)?))
 }
 
 /// NOT.
 pub fn not<'a>(arena: &'a Bump, inner: BExpr<'a>) -> Result<BExpr<'a>, Memory>
     ensures { IfOk result (λ made. expr_of made ≡ meant.Not (expr_of inner.entry)) }
 {
-    Ok(BExpr::Not(place_expr(arena, inner)?))
+    Ok(BExpr::Not(place(arena, inner)?))
 }
 
 /// The members joined by AND.

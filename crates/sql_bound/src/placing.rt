@@ -1,20 +1,11 @@
-//! What is put into the arena stands there as it was.
+//! Lists of expressions in the arena stand there as they were.
 ghost use Rattle.std.specs.Prelude.{◌≡◌, IfOk, map};
 
 use crate::{BExpr, BExprs};
 use bumpalo::Bump;
 use bumpalo::collections::into_bump_slice;
-use sql_value::Memory;
-
-/// The expression in the arena.
-pub fn place_expr<'a>(arena: &'a Bump, expr: BExpr<'a>) -> Result<&'a BExpr<'a>, Memory>
-    ensures { IfOk result (λ place. place.now ≡ expr.entry) }
-{
-    match arena.try_alloc(expr) {
-        Ok(place) => Ok(place),
-        Err(_) => Err(Memory),
-    }
-}
+use sql_tree::place;
+use sql_value::{Memory, push};
 
 /// Each expression in the arena, and then the list of their references.
 pub fn place_list<'a>(arena: &'a Bump, list: &[BExpr<'a>]) -> Result<BExprs<'a>, Memory>
@@ -22,10 +13,8 @@ pub fn place_list<'a>(arena: &'a Bump, list: &[BExpr<'a>]) -> Result<BExprs<'a>,
 {
     let mut places: Vec<&'a BExpr<'a>, &'a Bump> = Vec::new(arena);
     for expr in list {
-        let place = place_expr(arena, *expr)?;
-        if places.push(place).is_err() {
-            return Err(Memory);
-        }
+        let placed = place(arena, *expr)?;
+        push(&mut places, placed)?;
     }
     Ok(BExprs {
         members: into_bump_slice(places),

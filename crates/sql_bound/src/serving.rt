@@ -132,6 +132,12 @@ fn expr_standing(expr: &BExpr, placed: u64, item: u32) -> Standing
                 list_standing(entries, placed, item),
             )
         }
+        BExpr::Like(_, left, pattern) => {
+            farther(
+                expr_standing(left, placed, item),
+                expr_standing(pattern, placed, item),
+            )
+        }
         BExpr::IsNull(_, inner) => expr_standing(inner, placed, item),
         BExpr::Not(inner) => expr_standing(inner, placed, item),
         BExpr::All(members) => list_standing(members, placed, item),

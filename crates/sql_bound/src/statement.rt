@@ -1,9 +1,15 @@
 //! A statement with its names bound.
-ghost use Rattle.sql_bound.specs.Fits.{FitsWithIndexes};
+ghost use Rattle.sql_bound.specs.Fits.{FitsWithIndexes, FittingArePlannable};
 
 use crate::BExpr;
 use sql_tree::Cut;
-use sql_value::{Affinity, Collation};
+use sql_value::Collation;
+
+/// The most tables of FROM.
+pub const MOST_ITEMS: usize = 64;
+
+/// The most conditions that AND joins in the ON conditions and WHERE together.
+pub const MOST_CONJUNCTS: usize = 256;
 
 /// A table of FROM, or the one that an UPDATE or DELETE changes.
 #[derive(Clone, Copy)]
@@ -54,14 +60,12 @@ pub struct Bound<'a> {
     pub needs: &'a [&'a [u32]],
 }
 
-/// An expression that a row is looked up by, with what is applied to its value.
-#[derive(Clone, Copy)]
-pub struct KeyExpr<'a> {
-    pub expr: &'a BExpr<'a>,
-    pub conv: Option<Affinity>,
-}
-
 /// A law: a statement that fits a schema fits it with an index more.
 pub fn added_indexes_keep_fits()
     ensures { FitsWithIndexes }
+{}
+
+/// A law: a statement that fits a schema is one that the laws of plans speak of.
+pub fn fitting_statements_are_plannable()
+    ensures { FittingArePlannable }
 {}

@@ -2,7 +2,7 @@ use Rattle.std.proofs.Common.{ap, ap₂, ◌∙◌, sym}
 use Rattle.sql_meaning.specs.Expressions.{names, all_names}
 use Rattle.sql_bound.specs.Expressions.{expr_of, members_of}
 use Rattle.sql_bound.specs.Naming.{farther_of}
-use Rattle.sql_bound.proofs.Members.{expr_of-Cmp, expr_of-OneOf}
+use Rattle.sql_bound.proofs.Members.{expr_of-Cmp, expr_of-OneOf, expr_of-Like}
 use Rattle.sql_bound.proofs.Standings.{standing-append}
 use Rattle.sql_bound.proofs.StandingTurns.{standing_turn}
 use Rattle.sql_bound.proofs.serving.+expr_standing.Goals as goal
@@ -18,6 +18,15 @@ expr_standing-returns-in-Cmp t c =
     ∙ sym
     (standing-append c.args.placed c.args.item (names (expr_of c.in-Cmp.left.now))
     (names (expr_of c.in-Cmp.right.now))))
+
+pub expr_standing-returns-in-Like : goal.expr_standing-returns-in-Like
+expr_standing-returns-in-Like t c =
+    rw (c.in-Like.is, expr_of-Like c.in-Like.field-0 c.in-Like.left c.in-Like.pattern)
+    (c.farther-in-Like.ensures
+    ∙ ap₂ farther_of c.expr_standing-in-Like.ensures c.expr_standing-in-Like-2.ensures
+    ∙ sym
+    (standing-append c.args.placed c.args.item (names (expr_of c.in-Like.left.now))
+    (names (expr_of c.in-Like.pattern.now))))
 
 pub expr_standing-returns-in-OneOf : goal.expr_standing-returns-in-OneOf
 expr_standing-returns-in-OneOf t c =

@@ -2,7 +2,7 @@ use Rattle.std.proofs.Common.{◌≡◌, drop}
 use Rattle.sql_meaning.specs.Expressions.{all_names}
 use Rattle.sql_bound.specs.Expressions.{members_of}
 use Rattle.sql_bound.specs.Naming.{farther_of, standing_all}
-use Rattle.sql_bound.proofs.Turns.{plain_members}
+use Rattle.sql_bound.proofs.Members.{plain_members}
 use Rattle.sql_bound.proofs.serving.+expr_standing.Given as goal
 
 abbrev pub invariant-list_standing-loop-member : goal.invariant-list_standing-loop-member

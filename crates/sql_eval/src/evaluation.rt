@@ -4,12 +4,14 @@ ghost use Rattle.sql_meaning.specs.Evaluation.{ev, evs, all3, any3, one_of3};
 ghost use Rattle.sql_meaning.specs.Conversions.{converted_by};
 ghost use Rattle.sql_value.specs.View.{plain_value, plain_affinity, plain_collation};
 ghost use Rattle.sql_bound.specs.Expressions.{expr_of, members_of};
-ghost use Rattle.sql_bound.specs.Environments.{assignment_of, params_of, GivesRows, AllGiveRows};
-ghost use Rattle.sql_bound.specs.Seen.{seen_value};
+ghost use Rattle.sql_eval.specs.Environments.{assignment_of, params_of, GivesRows, AllGiveRows};
+ghost use Rattle.sql_eval.specs.Seen.{seen_value};
 
+use crate::Env;
+use crate::likes::like3;
 use crate::logic::{both, compare3, either, from_truth, is_null, negated_if, opposite};
 use crate::reading::{Seen, column, literal, param, rowid};
-use crate::{BExpr, BExprs, Env};
+use sql_bound::{BExpr, BExprs};
 use sql_tree::Op;
 use sql_value::{Affinity, Collation, Memory, Value, truth};
 use std::alloc::Global;
@@ -26,7 +28,7 @@ pub fn eval(alloc: Global, expr: &BExpr, env: &Env) -> Result<Value, Memory>
 }
 
 #[cycle(eval)]
-#[tactic(auto, using(crate::proofs::Members::seen_lists))]
+#[tactic(auto, using(sql_bound::proofs::Members::seen_lists))]
 fn seen<'e>(alloc: Global, expr: &BExpr, env: &Env<'e>) -> Result<Seen<'e>, Memory>
     requires { GivesRows env.now (expr_of expr.now) }
     ensures { IfOk result (λ value.
@@ -64,6 +66,12 @@ fn seen<'e>(alloc: Global, expr: &BExpr, env: &Env<'e>) -> Result<Seen<'e>, Memo
             let value = seen(alloc, left, env)?;
             let found = one_of(alloc, entries, *conv, *coll, value.as_value(), env)?;
             Ok(Seen::Made(from_truth(negated_if(*not, found))))
+        }
+        BExpr::Like(negated, left, pattern) => {
+            let text = seen(alloc, left, env)?;
+            let pattern = seen(alloc, pattern, env)?;
+            let holds = like3(alloc, text, pattern)?;
+            Ok(Seen::Made(from_truth(negated_if(*negated, holds))))
         }
         BExpr::IsNull(negated, inner) => {
             let value = seen(alloc, inner, env)?;

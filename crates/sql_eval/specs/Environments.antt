@@ -6,10 +6,10 @@ use Rattle.sql_meaning.specs.Values.{Value}
 use Rattle.sql_meaning.specs.Rows.{Row, Assignment}
 use Rattle.sql_meaning.specs.Schemas.{Database}
 use Rattle.sql_meaning.specs.Expressions.{BExpr, BExprs, Lit, Param, Column, Rowid, Plus, Collate}
-use Rattle.sql_meaning.specs.Expressions.{Cmp, OneOf, IsNull, Not, All, Any, Nil, More}
+use Rattle.sql_meaning.specs.Expressions.{Cmp, OneOf, Like, IsNull, Not, All, Any, Nil, More}
 use Rattle.schema_model.specs.PlainSchemas.{plain_database}
-use Rattle.sql_bound.specs.declared.environment.Place.{Place}
-use Rattle.sql_bound.specs.declared.environment.Env.{Env}
+use Rattle.sql_eval.specs.declared.environment.Place.{Place}
+use Rattle.sql_eval.specs.declared.environment.Env.{Env}
 
 -- the row at a place, or the missing row
 abbrev pub placed_row : Database → Place → Option Row
@@ -50,6 +50,8 @@ abbrev mutual
       HasRows database places left × HasRows database places right
   HasRows database places (OneOf negated left entries entry_conversion collation) =
       HasRows database places left × AllHaveRows database places entries
+  HasRows database places (Like negated e pattern) =
+      HasRows database places e × HasRows database places pattern
   HasRows database places (IsNull negated e) = HasRows database places e
   HasRows database places (Not e) = HasRows database places e
   HasRows database places (All es) = AllHaveRows database places es

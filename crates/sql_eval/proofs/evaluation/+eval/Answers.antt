@@ -3,11 +3,11 @@ use Rattle.sql_value.specs.View.{plain_affinity, plain_collation}
 use Rattle.sql_meaning.specs.Conversions.{converted_by}
 use Rattle.sql_meaning.specs.Evaluation.{evs, from_truth, negated_if, one_of3}
 use Rattle.sql_bound.specs.Expressions.{members_of}
-use Rattle.sql_bound.specs.Environments.{assignment_of, params_of}
+use Rattle.sql_eval.specs.Environments.{assignment_of, params_of}
 use Rattle.sql_bound.specs.declared.expression.BExpr.{the_lemmas}
 use Rattle.sql_bound.proofs.Members.{expr_of-OneOf}
-use Rattle.sql_bound.proofs.Turns.{gives-All, gives-Any, gives-OneOf}
-use Rattle.sql_bound.proofs.evaluation.+eval.Goals as goal
+use Rattle.sql_eval.proofs.Turns.{gives-All, gives-Any, gives-OneOf}
+use Rattle.sql_eval.proofs.evaluation.+eval.Goals as goal
 
 pub seen-all_of-requires : goal.seen-all_of-requires
 seen-all_of-requires t c = (

@@ -7,9 +7,9 @@ ghost use Rattle.sql_tree.specs.Trees.{literal_value};
 ghost use Rattle.sql_value.specs.View.{plain_value, plain_affinity};
 ghost use Rattle.schema_model.specs.PlainSchemas.{plain_database};
 ghost use Rattle.schema_model.specs.PlainSchemas.{plain_row};
-ghost use Rattle.sql_bound.specs.Environments.{assignment_of, params_of, placed_row};
-ghost use Rattle.sql_bound.specs.Environments.{IsPlace, HasColumn};
-ghost use Rattle.sql_bound.specs.Seen.{seen_value};
+ghost use Rattle.sql_eval.specs.Environments.{assignment_of, params_of, placed_row};
+ghost use Rattle.sql_eval.specs.Environments.{IsPlace, HasColumn};
+ghost use Rattle.sql_eval.specs.Seen.{seen_value};
 
 use crate::{Env, Place};
 use schema_model::Row;

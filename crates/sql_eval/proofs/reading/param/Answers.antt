@@ -1,5 +1,5 @@
-use Rattle.sql_bound.proofs.Parameters.{param_at}
-use Rattle.sql_bound.proofs.reading.param.Goals as goal
+use Rattle.sql_eval.proofs.Parameters.{param_at}
+use Rattle.sql_eval.proofs.reading.param.Goals as goal
 
 pub returns-in-Some : goal.returns-in-Some
 returns-in-Some c =
