@@ -18,7 +18,7 @@ use Rattle.sql_bound.specs.declared.expression.BExpr.{BExpr}
 use Rattle.sql_bound.specs.Expressions.{expr_of}
 use Rattle.sql_bind.specs.Results.{ResultColumn}
 use Rattle.sql_bind.specs.Keys.{is_called}
-use Rattle.sql_bind.specs.declared.results.Column.{Column}
+use Rattle.sql_bind.specs.declared.results.ResultColumn as declared
 use Rattle.sql_bind.specs.Views.{exprs_under, HasAliases, result_of, results_seen}
 
 abbrev called : List ℕ → ResultColumn → Bool
@@ -109,7 +109,8 @@ pub is_mapped : {A E : Type 0} (e : A → E) (found : Option A)
 is_mapped e None = refl
 is_mapped e (Some a) = refl
 
-seen_more : (columns : List Column) (i : ℕ) (d : Column) → i < length columns
+seen_more : (columns : List declared.ResultColumn) (i : ℕ) (d : declared.ResultColumn)
+    → i < length columns
     → results_seen (take (i + 1) columns)
     ≡ results_seen (take i columns) ++ result_of (get_or columns i d) ∷ []
 seen_more columns i d below =
@@ -117,8 +118,8 @@ seen_more columns i d below =
     ∙ map_push result_of (take i columns) (get_or columns i d)
 
 -- a turn of the loop over results
-module _ (entries : List (Vec ℕ × Bor BExpr)) (columns : List Column) (i : ℕ) (d : Column)
-    (below : i < length columns) where
+module _ (entries : List (Vec ℕ × Bor BExpr)) (columns : List declared.ResultColumn) (i : ℕ)
+    (d : declared.ResultColumn) (below : i < length columns) where
   alias_turn : HasAliases entries
       (results_seen (take i columns) ++ result_of (get_or columns i d) ∷ [])
       → HasAliases entries (results_seen (take (i + 1) columns))

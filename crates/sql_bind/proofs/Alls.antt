@@ -29,6 +29,11 @@ pub all_each : {X : Type 0} (P Q : X → Type 0) → ((x : X) → P x → Q x) �
 all_each P Q f [] a = tt
 all_each P Q f (x ∷ xs) a = (f x a.0, all_each P Q f xs a.1)
 
+pub all_two : {X : Type 0} (P Q R : X → Type 0) → ((x : X) → P x → Q x → R x) → (xs : List X)
+    → AllByRecursion P xs → AllByRecursion Q xs → AllByRecursion R xs
+all_two P Q R f [] a b = tt
+all_two P Q R f (x ∷ xs) a b = (f x a.0 b.0, all_two P Q R f xs a.1 b.1)
+
 pub all_any : {X : Type 0} (P : X → Type 0) → ((x : X) → P x) → (xs : List X)
     → AllByRecursion P xs
 all_any P f [] = tt

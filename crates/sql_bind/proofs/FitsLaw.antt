@@ -1,44 +1,40 @@
 -- A statement that passes its checks fits the schema.
-use Rattle.std.proofs.Common.{◌≡◌, ◌<◌, ◌≤◌, ℕ, Bool, true, false, None, Some, is_some}
-use Rattle.std.proofs.Common.{List, [], ◌∷◌, map, length, not, refl, ap, sym, subst}
+use Rattle.std.proofs.Common.{◌≡◌, ◌<◌, ◌≤◌, ℕ, Bool, true, false, None, Some}
+use Rattle.std.proofs.Common.{List, [], ◌∷◌, map, length, not, refl, sym, subst}
 use Rattle.std.proofs.Common.{◌∙◌, arith, true≢false}
 use Rattle.std.specs.List.{AllByRecursion, slice_get, range_with_len, list_any}
 use Rattle.std.proofs.lemmas.List.{length-map}
 use Rattle.std.proofs.lemmas.List.FromFn.{length-map-range_with_len, get_or-map-range_with_len}
 use Rattle.std.proofs.lemmas.Option.{slice_get_within, get_or_from_slice_get}
-use Rattle.sql_meaning.specs.Expressions.{BExpr, flat}
-use Rattle.sql_meaning.specs.Statements.{Conjunct, left_item, is_left}
-use Rattle.sql_tree.specs.Trees.{Tree}
+use Rattle.sql_meaning.specs.Expressions.{BExpr}
+use Rattle.sql_meaning.specs.Statements.{left_item, is_left}
 use Rattle.sql_tree.specs.Statements.{SourceTree, StatementTree, Select, Update, Delete}
 use Rattle.schema_model.specs.PlainSchemas.{plain_schema, plain_table}
 use Rattle.schema_model.specs.Schemas.{Schema}
-use Rattle.sql_bound.specs.Fits.{Fits, IsSound, StaysLeft, width}
+use Rattle.sql_bound.specs.Fits.{Fits, IsSound, StaysLeft, width, most_conjuncts}
 use Rattle.sql_names.specs.Faults.{first_failing}
 use Rattle.sql_names.specs.Scopes.{Scope, IsScope}
 use Rattle.sql_meaning.specs.OrderState.{is_alias}
-use Rattle.sql_names.specs.Binding.{bound}
-use Rattle.sql_bind.specs.Clauses.{sources_of, entries_of, filter_of, keys_of, changes_rows}
-use Rattle.sql_bind.specs.Sources.{scope_of, named_item, from_checks}
+use Rattle.sql_bind.specs.Clauses.{sources_of, entries_of, filter_of, order_keys_of, changes_rows}
+use Rattle.sql_bind.specs.Sources.{scope_of, named_item, from_checks, begins_left}
 use Rattle.sql_bind.specs.Results.{width_at, alias_at}
-use Rattle.sql_bind.specs.Conditions.{conditions, conjuncts_in, unowned, count_of_terms_check}
+use Rattle.sql_bind.specs.Conditions.{ons_terms, terms_of, count_of_terms_check}
 use Rattle.sql_bind.specs.Keys.{sort_key, key_expr}
 use Rattle.sql_bind.specs.Needs.{needed_of, exprs_in, columns_kept, columns_named, names_column}
 use Rattle.sql_bind.specs.Binding.{later_checks, results_in, terms_in, bound_in}
 use Rattle.sql_bind.specs.Binding.{bound_statement, needs_statement, first_failure}
 use Rattle.sql_bind.proofs.Alls.{all_mapped, all_both, all_any, all_each, all_below, all_kept}
-use Rattle.sql_bind.proofs.Passed.{passed_both, passed_one, few, counted, from_is_scope}
-use Rattle.sql_bind.proofs.SoundParts.{wide, results_sound, key_sound, terms_sound}
+use Rattle.sql_names.proofs.Checks.{passed_both}
+use Rattle.sql_bind.proofs.Passed.{passed_one, few, counted, from_is_scope}
+use Rattle.sql_bind.proofs.SoundParts.{wide, results_sound, key_sound}
+use Rattle.sql_bind.proofs.Owners.{Kept, ons_kept, filter_kept}
+use Rattle.sql_bind.proofs.Terms.{terms_together}
 use Rattle.sql_bind.proofs.Steps.{of_results, of_ons, of_sets, of_filter, of_keys, of_count}
 
--- no owner, and a sound expression
-record Common (scope : Scope) (c : Conjunct) : Type 0 where
-  pub sound : IsSound (plain_schema scope.schema) scope.items c.expr
-  pub unowned_is : c.owner ≡ None
-
-first_is_not_left : (schema : Schema) (sources : List SourceTree)
+first_is_not_left : (schema : Schema) (sources : List SourceTree) → begins_left sources ≡ false
     → left_item (slice_get (map (λ n. n.item) (map (named_item schema) sources)) 0) ≡ false
-first_is_not_left schema [] = refl
-first_is_not_left schema (source ∷ sources) = refl
+first_is_not_left schema [] h = refl
+first_is_not_left schema (source ∷ sources) h = h
 
 one_source : (tree : StatementTree) → changes_rows tree ≡ true → length (sources_of tree) ≡ 1
 one_source (Select s) h = absurd (true≢false (sym h))
@@ -46,20 +42,6 @@ one_source (Update u) h = refl
 one_source (Delete d) h = refl
 
 module _ (scope : Scope) (ok : IsScope scope) where
-  condition_common : (tree : Tree)
-      → AllByRecursion (Common scope) (map unowned (flat (bound scope tree)))
-  condition_common tree =
-      all_mapped (Common scope) unowned (flat (bound scope tree))
-      (all_each (IsSound (plain_schema scope.schema) scope.items) (λ e. Common scope (unowned e))
-      (λ e h. record { sound = h; unowned_is = refl }) (flat (bound scope tree))
-      (terms_sound scope ok tree))
-
-  common_terms : (trees : List Tree) → AllByRecursion (Common scope) (conjuncts_in scope trees)
-  common_terms [] = tt
-  common_terms (tree ∷ trees) =
-      all_both (Common scope) (map unowned (flat (bound scope tree))) (conjuncts_in scope trees)
-      (condition_common tree) (common_terms trees)
-
   kept_within : (item : ℕ) → AllByRecursion (λ column. column < width_at scope item)
       (columns_kept scope item)
   kept_within item =
@@ -106,7 +88,7 @@ module _ (scope : Scope) (ok : IsScope scope) where
       (bound_in scope tree).keys
   keys_all_sound tree =
       all_mapped (λ k. IsSound (plain_schema scope.schema) scope.items k.expr)
-      (sort_key scope (results_in scope tree)) (keys_of tree)
+      (sort_key scope (results_in scope tree)) (order_keys_of tree)
       (all_any
       (λ key.
       IsSound (plain_schema scope.schema) scope.items
@@ -114,18 +96,13 @@ module _ (scope : Scope) (ok : IsScope scope) where
       (λ key.
       key_sound scope ok (results_in scope tree) (results_sound scope ok (entries_of tree))
       key.expr)
-      (keys_of tree))
+      (order_keys_of tree))
 
-few_terms : (scope : Scope) (tree : StatementTree) → first_failing (later_checks scope tree) ≡ None
-    → length (terms_in scope tree) ≤ 256
+few_terms : (scope : Scope) (tree : StatementTree) → first_failing (of_count scope tree) ≡ None
+    → length (terms_in scope tree) ≤ most_conjuncts
 few_terms scope tree h =
-    let a = passed_both (of_results scope tree) _ h in
-    let b = passed_both (of_ons scope tree) _ a.1 in
-    let d = passed_both (of_sets scope tree) _ b.1 in
-    let e = passed_both (of_filter scope tree) _ d.1 in
-    let f = passed_both (of_keys scope tree) (of_count scope tree) e.1 in
-    few 256 (length (terms_in scope tree)) _
-    (passed_one (count_of_terms_check (terms_in scope tree)) [] f.1).0
+    few most_conjuncts (length (terms_in scope tree)) _
+    (passed_one (count_of_terms_check (terms_in scope tree)) [] h).0
 
 -- the plain schema has as many tables
 all_tables : (schema : Schema) (sources : List SourceTree) → IsScope (scope_of schema sources)
@@ -136,40 +113,42 @@ all_tables schema sources ok =
     (λ i. i.table < length (plain_schema schema).tables)
     (λ i h. rw (length-map schema.tables plain_table) h) (scope_of schema sources).items ok.tables
 
-no_owner_is : {scope : Scope} (c : Conjunct) → Common scope c → (owner : ℕ) → c.owner ≡ Some owner
-    → ⊥
-no_owner_is c h owner is =
-    true≢false (sym (ap (λ o. is_some o) (sym h.unowned_is ∙ is)))
-
 pub statement_fits : (schema : Schema) (tree : StatementTree) → 0 < length (sources_of tree)
-    → first_failure schema tree ≡ None
+    → begins_left (sources_of tree) ≡ false → first_failure schema tree ≡ None
     → Fits (plain_schema schema) (bound_statement schema tree) (needs_statement schema tree)
-statement_fits schema tree some passed =
+statement_fits schema tree some first passed =
     let sources = sources_of tree in
     let scope = scope_of schema sources in
     let both = passed_both (from_checks schema sources) (later_checks scope tree) passed in
     let ok = from_is_scope schema sources both.0 in
     let exprs = exprs_in (bound_statement schema tree) in
-    let terms = common_terms scope ok (conditions sources (filter_of tree)) in
+    let a = passed_both (of_results scope tree) _ both.1 in
+    let b = passed_both (of_ons scope tree) _ a.1 in
+    let d = passed_both (of_sets scope tree) _ b.1 in
+    let e = passed_both (of_filter scope tree) _ d.1 in
+    let f = passed_both (of_keys scope tree) (of_count scope tree) e.1 in
+    let terms : AllByRecursion (Kept scope) (terms_in scope tree) =
+    rw (terms_together scope sources (filter_of tree))
+    (all_both (Kept scope) (ons_terms scope sources) (terms_of scope None (filter_of tree))
+    (ons_kept schema sources ok b.0) (filter_kept scope (filter_of tree) ok e.0)) in
     record {
       some_item = rw (counted schema sources) some;
       few_items = ok.few;
-      few_conjuncts = few_terms scope tree both.1;
+      few_conjuncts = few_terms scope tree f.1;
       one_changed = λ changed. counted schema sources ∙ one_source tree changed;
       tables = all_tables schema sources ok;
       results = all_mapped (IsSound (plain_schema schema) scope.items) (λ r. r.expr)
           (results_in scope tree) (results_sound scope ok (entries_of tree));
-      conjuncts = all_each (Common scope) (λ c. IsSound (plain_schema schema) scope.items c.expr)
+      conjuncts = all_each (Kept scope) (λ c. IsSound (plain_schema schema) scope.items c.expr)
           (λ c h. h.sound) (terms_in scope tree) terms;
       keys = keys_all_sound scope ok tree;
       needs_each = length-map-range_with_len (needed_of scope (changes_rows tree) exprs) 0
           (length scope.items);
       needed = needed_at scope ok (changes_rows tree) exprs;
-      first = first_is_not_left schema sources;
-      owners = all_each (Common scope)
+      first = first_is_not_left schema sources first;
+      owners = all_each (Kept scope)
           (λ c. (owner : ℕ) → c.owner ≡ Some owner
           → is_left (bound_statement schema tree) owner ≡ true)
-          (λ c h owner is. absurd (no_owner_is c h owner is)) (terms_in scope tree) terms;
-      owned = all_each (Common scope) StaysLeft (λ c h owner is. absurd (no_owner_is c h owner is))
-          (terms_in scope tree) terms;
+          (λ c h. h.left) (terms_in scope tree) terms;
+      owned = all_each (Kept scope) StaysLeft (λ c h. h.stays) (terms_in scope tree) terms;
     }

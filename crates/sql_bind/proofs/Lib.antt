@@ -1,6 +1,7 @@
 pub mod Lists
 pub mod Alls
 pub mod Turns
+pub mod Numbered
 pub mod Ranges
 pub mod MarkLaws
 pub mod AliasLaws
@@ -8,5 +9,6 @@ pub mod Terms
 pub mod Passed
 pub mod Steps
 pub mod SoundParts
+pub mod Owners
 pub mod FitsLaw
 pub mod FromSteps

@@ -10,7 +10,7 @@ use Rattle.std.proofs.Math.Bool.{or_assoc}
 use Rattle.std.proofs.lemmas.List.{take_more}
 use Rattle.sql_bound.specs.declared.expression.BExpr.{BExpr}
 use Rattle.sql_bound.specs.Expressions.{expr_of}
-use Rattle.sql_bound.proofs.Turns.{plain_members}
+use Rattle.sql_bound.proofs.Members.{plain_members}
 use Rattle.sql_bind.specs.Needs.{names_column, some_names_column}
 use Rattle.sql_bind.specs.Marks.{Marks, marked_numbers}
 use Rattle.sql_meaning.specs.Expressions as plain

@@ -13,16 +13,11 @@ use Rattle.schema_model.proofs.Sound.{differ_between}
 use Rattle.sql_names.specs.declared.faults.BindFault.{BindFault}
 use Rattle.sql_names.specs.Faults.{first_failing}
 use Rattle.sql_names.specs.Scopes.{IsScope}
+use Rattle.sql_names.proofs.Checks.{passed_both}
 use Rattle.sql_names.proofs.Tables.{position_within}
 use Rattle.sql_bind.specs.Sources.{found, table_fault, table_number, table_checks, known_as}
 use Rattle.sql_bind.specs.Sources.{name_check, name_checks, count_check, from_checks, named_item}
 use Rattle.sql_bind.specs.Sources.{scope_of}
-
-pub passed_both : (xs ys : List (Option BindFault)) → first_failing (xs ++ ys) ≡ None
-    → (first_failing xs ≡ None) × (first_failing ys ≡ None)
-passed_both [] ys h = (refl, h)
-passed_both (None ∷ xs) ys h = passed_both xs ys h
-passed_both (Some fault ∷ xs) ys h = absurd (cc)
 
 pub passed_one : (check : Option BindFault) (checks : List (Option BindFault))
     → first_failing (check ∷ checks) ≡ None → (check ≡ None) × (first_failing checks ≡ None)

@@ -10,7 +10,7 @@ use Rattle.sql_meaning.specs.Items.{Item}
 use Rattle.sql_meaning.specs.Schemas as plain
 use Rattle.sql_meaning.specs.Statements.{table_of}
 use Rattle.sql_meaning.specs.Expressions.{BExpr, BExprs, Lit, Param, Column, Rowid, Plus, Collate}
-use Rattle.sql_meaning.specs.Expressions.{Cmp, OneOf, IsNull, Not, All, Any, Nil, More, flat}
+use Rattle.sql_meaning.specs.Expressions.{Cmp, OneOf, Like, IsNull, Not, All, Any, Nil, More, flat}
 use Rattle.sql_meaning.specs.Expressions.{flat_all}
 use Rattle.sql_meaning.specs.Values as value
 use Rattle.sql_meaning.proofs.Links.{all_at}
@@ -31,7 +31,7 @@ use Rattle.sql_names.proofs.Sound.{bound_sound}
 use Rattle.sql_names.proofs.Tables.{position_within}
 use Rattle.sql_bind.specs.Results.{ResultColumn, width_at, alias_at, column_at, item_columns}
 use Rattle.sql_bind.specs.Results.{columns_under, every_column, results_of, result_columns}
-use Rattle.sql_bind.specs.Keys.{KeyForm, Position, Bare, BareUnder, Other, key_form, at_position}
+use Rattle.sql_bind.specs.Keys.{KeyForm, Position, Bare, BareUnder, Other, key_form, result_at}
 use Rattle.sql_bind.specs.Keys.{aliased, under, meant_by, key_expr, is_called}
 use Rattle.sql_bind.proofs.Alls.{all_both, all_mapped, all_joined, all_any, all_below, all_found}
 use Rattle.sql_bind.proofs.Alls.{OfFound}
@@ -141,7 +141,7 @@ module _ (scope : Scope) (ok : IsScope scope) where
   meant_sound : (results : List ResultColumn) → AllByRecursion SoundResult results → (tree : Tree)
       (form : KeyForm) → Sound (meant_by scope results tree form)
   meant_sound results all tree (Position n) =
-      or_sound (at_position results n) (Lit value.Null)
+      or_sound (result_at results n) (Lit value.Null)
       (position_sound results all (n == 0) (n - 1)) null_sound
   meant_sound results all tree (Bare name) =
       or_sound (aliased results name) (bound scope tree) (aliased_sound results all name)
@@ -167,6 +167,7 @@ module _ (scope : Scope) (ok : IsScope scope) where
     flat_sound (Collate e collation) h = (h, tt)
     flat_sound (Cmp op l r lc rc collation) h = (h, tt)
     flat_sound (OneOf n l es ec collation) h = (h, tt)
+    flat_sound (Like n e pattern) h = (h, tt)
     flat_sound (IsNull n e) h = (h, tt)
     flat_sound (Not e) h = (h, tt)
     flat_sound (Any es) h = (h, tt)

@@ -1,17 +1,17 @@
 -- What a statement means in a schema, and the checks that it has to pass, in their order. Each is
 -- stated apart: the meaning is total, and stands where no check fails.
-use Rattle.std.specs.Prelude.{ℕ, Option, List, [], ◌∷◌, ◌++◌, map, flat_map}
+use Rattle.std.specs.Prelude.{ℕ, Option, None, List, [], ◌∷◌, ◌++◌, map, flat_map}
 use Rattle.sql_meaning.specs.Statements.{Bound, Conjunct}
 use Rattle.sql_tree.specs.Statements.{StatementTree}
 use Rattle.schema_model.specs.Schemas.{Schema}
 use Rattle.sql_names.specs.declared.faults.BindFault.{BindFault}
 use Rattle.sql_names.specs.Faults.{first_failing}
 use Rattle.sql_names.specs.Scopes.{Scope}
-use Rattle.sql_bind.specs.Clauses.{sources_of, entries_of, sets_of, filter_of, keys_of}
+use Rattle.sql_bind.specs.Clauses.{sources_of, entries_of, sets_of, filter_of, order_keys_of}
 use Rattle.sql_bind.specs.Clauses.{limit_of, offset_of, changes_rows}
 use Rattle.sql_bind.specs.Sources.{from_checks, scope_of}
 use Rattle.sql_bind.specs.Results.{ResultColumn, entry_checks, result_columns}
-use Rattle.sql_bind.specs.Conditions.{conditions, on_checks, condition_checks, conjuncts_in}
+use Rattle.sql_bind.specs.Conditions.{conditions, ons_checks, condition_checks, conjuncts_in}
 use Rattle.sql_bind.specs.Conditions.{set_checks}
 use Rattle.sql_bind.specs.Conditions.{count_of_terms_check}
 use Rattle.sql_bind.specs.Keys.{key_checks, sort_key}
@@ -27,10 +27,10 @@ terms_in scope tree = conjuncts_in scope (conditions (sources_of tree) (filter_o
 abbrev pub later_checks : Scope → StatementTree → List (Option BindFault)
 later_checks scope tree =
     flat_map (entry_checks scope) (entries_of tree)
-    ++ (flat_map (on_checks scope) (sources_of tree)
+    ++ (ons_checks scope (sources_of tree)
     ++ (flat_map (set_checks scope) (sets_of tree)
-    ++ (condition_checks scope (filter_of tree)
-    ++ (flat_map (key_checks scope (results_in scope tree)) (keys_of tree)
+    ++ (condition_checks scope None (filter_of tree)
+    ++ (flat_map (key_checks scope (results_in scope tree)) (order_keys_of tree)
     ++ count_of_terms_check (terms_in scope tree) ∷ []))))
 
 abbrev pub checks : Schema → StatementTree → List (Option BindFault)
@@ -47,7 +47,7 @@ bound_in scope tree = record {
   rowids = changes_rows tree;
   results = map (λ r. r.expr) (results_in scope tree);
   conjuncts = terms_in scope tree;
-  keys = map (sort_key scope (results_in scope tree)) (keys_of tree);
+  keys = map (sort_key scope (results_in scope tree)) (order_keys_of tree);
   limit = limit_of tree;
   offset = offset_of tree;
 }

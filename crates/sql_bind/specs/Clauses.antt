@@ -27,10 +27,10 @@ filter_of (Select s) = s.filter
 filter_of (Update u) = u.filter
 filter_of (Delete d) = d.filter
 
-abbrev pub keys_of : StatementTree → List KeyTree
-keys_of (Select s) = s.keys
-keys_of (Update u) = []
-keys_of (Delete d) = []
+abbrev pub order_keys_of : StatementTree → List KeyTree
+order_keys_of (Select s) = s.keys
+order_keys_of (Update u) = []
+order_keys_of (Delete d) = []
 
 abbrev pub limit_of : StatementTree → Option Cut
 limit_of (Select s) = option_map cut_of s.limit

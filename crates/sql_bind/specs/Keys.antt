@@ -41,8 +41,8 @@ aliased results name =
     option_map (λ r. r.expr) (find (λ r. is_called (folded_bytes name) r.alias) results)
 
 -- the expression of the result at a position, which counts from 1
-abbrev pub at_position : List ResultColumn → ℕ → Option BExpr
-at_position results n =
+abbrev pub result_at : List ResultColumn → ℕ → Option BExpr
+result_at results n =
     if n == 0 then None else option_map (λ r. r.expr) (slice_get results (n - 1))
 
 -- what is meant by a name or a name under COLLATE: a result where one has it for an alias
@@ -50,7 +50,7 @@ abbrev pub under : List ℕ → BExpr → BExpr
 under collation e = plain.Collate e (collation_or collation)
 
 abbrev pub meant_by : Scope → List ResultColumn → Tree → KeyForm → BExpr
-meant_by scope results tree (Position n) = unwrap_or (at_position results n) (plain.Lit value.Null)
+meant_by scope results tree (Position n) = unwrap_or (result_at results n) (plain.Lit value.Null)
 meant_by scope results tree (Bare name) = unwrap_or (aliased results name) (bound scope tree)
 meant_by scope results tree (BareUnder name collation) =
     unwrap_or (option_map (under collation) (aliased results name)) (bound scope tree)
@@ -67,12 +67,13 @@ unless_aliased (Some e) aliased otherwise = aliased
 unless_aliased None aliased otherwise = otherwise
 
 abbrev pub checks_by : Scope → List ResultColumn → Tree → KeyForm → List (Option BindFault)
-checks_by scope results tree (Position n) = position_check (at_position results n) ∷ []
+checks_by scope results tree (Position n) = position_check (result_at results n) ∷ []
 checks_by scope results tree (Bare name) =
-    unless_aliased (aliased results name) [] (expr_checks scope tree)
+    unless_aliased (aliased results name) [] (expr_checks scope None tree)
 checks_by scope results tree (BareUnder name collation) =
-    unless_aliased (aliased results name) (collation_check collation ∷ []) (expr_checks scope tree)
-checks_by scope results tree Other = expr_checks scope tree
+    unless_aliased (aliased results name) (collation_check collation ∷ [])
+    (expr_checks scope None tree)
+checks_by scope results tree Other = expr_checks scope None tree
 
 abbrev pub key_expr : Scope → List ResultColumn → Tree → BExpr
 key_expr scope results tree = meant_by scope results tree (key_form tree)

@@ -4,7 +4,7 @@ use Rattle.std.specs.Prelude.{ℕ, Bool, false, ◌==◌, ◌&&◌, ◌||◌, no
 use Rattle.std.specs.Prelude.{List, ◌++◌, map, length, filter}
 use Rattle.std.specs.List.{range_with_len, list_any}
 use Rattle.sql_meaning.specs.Expressions.{BExpr, BExprs, Lit, Param, Column, Rowid, Plus, Collate}
-use Rattle.sql_meaning.specs.Expressions.{Cmp, OneOf, IsNull, Not, All, Any, Nil, More}
+use Rattle.sql_meaning.specs.Expressions.{Cmp, OneOf, Like, IsNull, Not, All, Any, Nil, More}
 use Rattle.sql_meaning.specs.Statements.{Bound, exprs_of}
 use Rattle.sql_names.specs.Scopes.{Scope}
 use Rattle.sql_meaning.specs.OrderState.{is_alias}
@@ -23,6 +23,8 @@ abbrev mutual
       names_column item column l || names_column item column r
   names_column item column (OneOf negated l es ec collation) =
       names_column item column l || some_names_column item column es
+  names_column item column (Like negated e pattern) =
+      names_column item column e || names_column item column pattern
   names_column item column (IsNull negated e) = names_column item column e
   names_column item column (Not e) = names_column item column e
   names_column item column (All es) = some_names_column item column es

@@ -62,7 +62,7 @@ star_check table None = Some (fault.NoSuchColumn (table ++ codes ".*"))
 abbrev pub entry_checks : Scope → ItemTree → List (Option BindFault)
 entry_checks scope Star = []
 entry_checks scope (TableStar table) = star_check table (item_named scope table) ∷ []
-entry_checks scope (Value tree alias) = expr_checks scope tree
+entry_checks scope (Value tree alias) = expr_checks scope None tree
 
 abbrev pub result_columns : Scope → List ItemTree → List ResultColumn
 result_columns scope entries = flat_map (results_of scope) entries

@@ -1,5 +1,5 @@
 -- FROM: its checks, and what names are looked up in (lang_select, "Determination of input data").
-use Rattle.std.specs.Prelude.{ℕ, nat_lt, if◌then◌else◌, Option, Some, None, unwrap_or, map}
+use Rattle.std.specs.Prelude.{ℕ, Bool, nat_lt, if◌then◌else◌, Option, Some, None, unwrap_or, map}
 use Rattle.std.specs.Prelude.{List, [], ◌∷◌, ◌++◌, length, false, flat_map}
 use Rattle.sql_meaning.specs.Letters.{folded_bytes}
 use Rattle.sql_meaning.specs.Items.{Item}
@@ -8,6 +8,7 @@ use Rattle.schema_model.specs.Names.{has_name}
 use Rattle.schema_model.specs.Schemas.{Schema, found_table}
 use Rattle.schema_model.specs.declared.tables.Found.{Found}
 use Rattle.schema_model.specs.declared.tables.Found.TheVariants.{Read, Unread, Missing}
+use Rattle.sql_bound.specs.Fits.{most_items}
 use Rattle.sql_names.specs.declared.faults.BindFault.{BindFault}
 use Rattle.sql_names.specs.declared.faults.BindFault.TheVariants as fault
 use Rattle.sql_names.specs.Scopes.{Scope}
@@ -39,7 +40,7 @@ name_checks earlier (name ∷ names) =
     name_check earlier name ∷ name_checks (earlier ++ folded_bytes name ∷ []) names
 
 abbrev pub count_check : List SourceTree → Option BindFault
-count_check sources = if nat_lt 64 (length sources) then Some fault.TooManyTables else None
+count_check sources = if nat_lt most_items (length sources) then Some fault.TooManyTables else None
 
 abbrev pub from_checks : Schema → List SourceTree → List (Option BindFault)
 from_checks schema sources =
@@ -62,8 +63,17 @@ abbrev pub named_item : Schema → SourceTree → NamedItem
 named_item schema source = record {
   name = known_as source;
   alias = source.alias;
-  item = record { table = table_number (found schema source); cross = source.cross; left = false };
+  item = record {
+    table = table_number (found schema source);
+    cross = source.cross;
+    left = source.left;
+  };
 }
+
+-- LEFT JOIN stands before the first one, where there is nothing to its left
+abbrev pub begins_left : List SourceTree → Bool
+begins_left [] = false
+begins_left (source ∷ sources) = source.left
 
 abbrev pub scope_from : Schema → List NamedItem → Scope
 scope_from schema list = record {

@@ -8,28 +8,28 @@ use Rattle.sql_meaning.specs.Expressions as plain
 use Rattle.sql_bound.specs.Statements.{item_of}
 use Rattle.sql_bound.specs.Expressions.{expr_of}
 use Rattle.sql_bound.specs.declared.expression.BExpr.{BExpr}
-use Rattle.sql_bind.specs.Sources.{NamedItem}
-use Rattle.sql_bind.specs.Results.{ResultColumn}
+use Rattle.sql_bind.specs.Sources as plain_sources
+use Rattle.sql_bind.specs.Results as plain_results
 use Rattle.sql_bind.specs.Keys as meant
-use Rattle.sql_bind.specs.declared.sources.Named.{Named}
-use Rattle.sql_bind.specs.declared.results.Column.{Column}
+use Rattle.sql_bind.specs.declared.sources.NamedItem.{NamedItem}
+use Rattle.sql_bind.specs.declared.results.ResultColumn.{ResultColumn}
 use Rattle.sql_bind.specs.declared.keys.KeyForm.{KeyForm}
 use Rattle.sql_bind.specs.declared.keys.KeyForm.TheVariants as form
 
-abbrev pub named_of : Named → NamedItem
+abbrev pub named_of : NamedItem → plain_sources.NamedItem
 named_of n = record {
   name = n.name.now;
   alias = option_map (λ bytes. bytes.now) n.item.alias;
   item = item_of n.item;
 }
 
-abbrev pub result_of : Column → ResultColumn
+abbrev pub result_of : ResultColumn → plain_results.ResultColumn
 result_of c = record {
   expr = expr_of c.expr.now;
   alias = option_map (λ bytes. bytes.now) c.alias;
 }
 
-abbrev pub results_seen : List Column → List ResultColumn
+abbrev pub results_seen : List ResultColumn → List plain_results.ResultColumn
 results_seen columns = map result_of columns
 
 abbrev pub form_of : KeyForm → meant.KeyForm
@@ -44,7 +44,7 @@ exprs_under entries name =
     option_map (λ e. expr_of e.now) (lookup (λ key. is_name name key.items) entries)
 
 -- under each alias the first result that has it is noted
-abbrev pub HasAliases : List (Vec ℕ × Bor BExpr) → List ResultColumn → Type 0
+abbrev pub HasAliases : List (Vec ℕ × Bor BExpr) → List plain_results.ResultColumn → Type 0
 HasAliases entries results =
     (name : List ℕ)
     → exprs_under entries name

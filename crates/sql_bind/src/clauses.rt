@@ -52,8 +52,8 @@ pub(crate) fn filter_of<'a>(stmt: &Stmt<'a>) -> Option<&'a Expr<'a>>
 }
 
 /// The keys of ORDER BY.
-pub(crate) fn keys_of<'a>(stmt: &Stmt<'a>) -> &'a [Key<'a>]
-    ensures { map key_tree result.now ≡ meant.keys_of (statement_tree stmt.now) }
+pub(crate) fn order_keys_of<'a>(stmt: &Stmt<'a>) -> &'a [Key<'a>]
+    ensures { map key_tree result.now ≡ meant.order_keys_of (statement_tree stmt.now) }
 {
     match stmt {
         Stmt::Select(select) => select.keys,

@@ -1,76 +1,96 @@
 //! ON, WHERE and SET.
-ghost use Rattle.std.specs.Prelude.{◌≡◌, ◌<◌, ◌++◌, ◌∷◌, [], length, map, flat_map, option_map};
-ghost use Rattle.std.specs.Prelude.{OnOk};
+ghost use Rattle.std.specs.Prelude.{◌≡◌, ◌<◌, ◌≤◌, ◌++◌, ◌∷◌, [], length, map, flat_map};
+ghost use Rattle.std.specs.Prelude.{option_map, OnOk};
 ghost use Rattle.sql_meaning.specs.Expressions.{flat, flat_all};
 ghost use Rattle.sql_tree.specs.Trees.{tree_of};
 ghost use Rattle.sql_tree.specs.Statements.{source_tree, set_tree};
 ghost use Rattle.sql_bound.specs.Expressions.{expr_of, members_of};
+ghost use Rattle.sql_bound.specs.Fits.{most_items};
 ghost use Rattle.sql_bound.specs.Statements.{conjunct_of};
 ghost use Rattle.sql_names.specs.Faults.{Answers};
-ghost use Rattle.sql_bind.specs.Conditions.{unowned, terms_of, on_terms, on_checks};
+ghost use Rattle.sql_bind.specs.Conditions as meant;
+ghost use Rattle.sql_bind.specs.Conditions.{with_owner, terms_of, ons_terms, ons_checks};
 ghost use Rattle.sql_bind.specs.Conditions.{condition_checks};
 ghost use Rattle.sql_bind.specs.Conditions.{set_checks, target_check};
 
 use bumpalo::Bump;
-use sql_bound::{BExpr, BExprs, Conjunct, place_expr};
+use sql_bound::{BExpr, BExprs, Conjunct};
 use sql_names::{BindFault, Scope, bind_expr, named_in};
-use sql_tree::{Expr, Source};
+use sql_tree::{Expr, Source, place};
 use sql_value::{Bytes, Memory, fold};
 use std::alloc::Global;
 
-fn push<'a>(terms: &mut Vec<Conjunct<'a>>, expr: &'a BExpr<'a>) -> Result<(), Memory>
+fn push<'a>(
+    terms: &mut Vec<Conjunct<'a>>,
+    owner: Option<u32>,
+    expr: &'a BExpr<'a>,
+) -> Result<(), Memory>
     ensures { OnOk result
         (map conjunct_of terms.new.items ≡ map conjunct_of terms.old.items
-        ++ unowned (expr_of expr.now) ∷ []) }
+        ++ with_owner owner (expr_of expr.now) ∷ []) }
 {
-    match terms.push(Conjunct { expr, owner: None }) {
-        Ok(()) => Ok(()),
-        Err(_) => Err(Memory),
-    }
+    Ok(terms.push(Conjunct { expr, owner })?)
 }
 
 /// Appends the members of an AND, and of each AND among them.
 #[cycle(flatten)]
 #[tactic(auto, using(crate::proofs::Lists::seen_lists))]
-fn flatten<'a>(terms: &mut Vec<Conjunct<'a>>, expr: &'a BExpr<'a>) -> Result<(), Memory>
+fn flatten<'a>(
+    terms: &mut Vec<Conjunct<'a>>,
+    owner: Option<u32>,
+    expr: &'a BExpr<'a>,
+) -> Result<(), Memory>
     ensures { OnOk result (map conjunct_of terms.new.items
-        ≡ map conjunct_of terms.old.items ++ map unowned (flat (expr_of expr.now))) }
+        ≡ map conjunct_of terms.old.items ++ map (with_owner owner) (flat (expr_of expr.now))) }
 {
     match expr {
-        BExpr::All(members) => flatten_all(terms, members),
-        _ => push(terms, expr),
+        BExpr::All(members) => flatten_all(terms, owner, members),
+        _ => push(terms, owner, expr),
     }
 }
 
 #[cycle(flatten)]
-fn flatten_all<'a>(terms: &mut Vec<Conjunct<'a>>, list: &BExprs<'a>) -> Result<(), Memory>
+fn flatten_all<'a>(
+    terms: &mut Vec<Conjunct<'a>>,
+    owner: Option<u32>,
+    list: &BExprs<'a>,
+) -> Result<(), Memory>
     ensures { OnOk result (map conjunct_of terms.new.items
-        ≡ map conjunct_of terms.old.items ++ map unowned (flat_all (members_of list.now))) }
+        ≡ map conjunct_of terms.old.items
+        ++ map (with_owner owner) (flat_all (members_of list.now))) }
 {
     for member in list.members {
-        flatten(terms, member)?;
+        flatten(terms, owner, member)?;
     }
     Ok(())
 }
 
-/// Appends the terms of a condition, where it is written.
+/// Appends the terms of a condition, where it is written, each with the owner of the condition.
 pub(crate) fn bind_condition<'a>(
     alloc: Global,
     arena: &'a Bump,
     scope: &Scope,
     terms: &mut Vec<Conjunct<'a>>,
+    owner: Option<u32>,
     condition: Option<&'a Expr<'a>>,
 ) -> Result<(), BindFault>
     ensures { Answers (λ _. map conjunct_of terms.new.items) result
-        (condition_checks scope.now (option_map (λ e. tree_of e.now) condition.entry))
+        (condition_checks scope.now owner (option_map (λ e. tree_of e.now) condition.entry))
         (map conjunct_of terms.old.items
-        ++ terms_of scope.now (option_map (λ e. tree_of e.now) condition.entry)) }
+        ++ terms_of scope.now owner (option_map (λ e. tree_of e.now) condition.entry)) }
 {
     if let Some(tree) = condition {
-        let expr = bind_expr(alloc, arena, scope, tree)?;
-        flatten(terms, place_expr(arena, expr)?)?;
+        let expr = bind_expr(alloc, arena, scope, owner, tree)?;
+        flatten(terms, owner, place(arena, expr)?)?;
     }
     Ok(())
+}
+
+/// The owner of the ON condition of an item: the item itself where LEFT JOIN stands before it.
+fn owner_if(left: bool, item: u32) -> Option<u32>
+    ensures { result ≡ meant.owner_if left item }
+{
+    if left { Some(item) } else { None }
 }
 
 /// The terms of the ON conditions, in the order of FROM.
@@ -80,13 +100,17 @@ pub(crate) fn bind_ons<'a>(
     scope: &Scope,
     sources: &[Source<'a>],
 ) -> Result<Vec<Conjunct<'a>>, BindFault>
+    requires { length sources.now ≤ most_items }
     ensures { Answers (λ terms. map conjunct_of terms.items) result
-        (flat_map (on_checks scope.now) (map source_tree sources.now))
-        (flat_map (on_terms scope.now) (map source_tree sources.now)) }
+        (ons_checks scope.now (map source_tree sources.now))
+        (ons_terms scope.now (map source_tree sources.now)) }
 {
     let mut terms = Vec::new(alloc);
+    let mut item = 0;
     for source in sources {
-        bind_condition(alloc, arena, scope, &mut terms, source.on)?;
+        let owner = owner_if(source.left, item);
+        bind_condition(alloc, arena, scope, &mut terms, owner, source.on)?;
+        item += 1;
     }
     Ok(terms)
 }
@@ -117,7 +141,7 @@ fn check_set<'a>(
         (tt {0}) }
 {
     check_target(alloc, scope, column)?;
-    bind_expr(alloc, arena, scope, value)?;
+    bind_expr(alloc, arena, scope, None, value)?;
     Ok(())
 }
 

@@ -1,6 +1,6 @@
 //! ORDER BY.
-ghost use Rattle.std.specs.Prelude.{◌≡◌, ◌++◌, ◌∷◌, [], List, Some, map, flat_map, option_map};
-ghost use Rattle.std.specs.Prelude.{IfOk, OnOk};
+ghost use Rattle.std.specs.Prelude.{◌≡◌, ◌++◌, ◌∷◌, [], List, None, Some, map, flat_map};
+ghost use Rattle.std.specs.Prelude.{option_map, IfOk, OnOk};
 ghost use Rattle.sql_meaning.specs.Letters.{folded_bytes};
 ghost use Rattle.sql_tree.specs.Trees.{tree_of, literal_value};
 ghost use Rattle.sql_tree.specs.Trees as tree;
@@ -10,17 +10,17 @@ ghost use Rattle.sql_bound.specs.Statements.{sort_key_of};
 ghost use Rattle.sql_names.specs.Faults.{Answers};
 ghost use Rattle.sql_names.specs.Binding.{bound, expr_checks};
 ghost use Rattle.sql_names.specs.Collating.{collation_check};
-ghost use Rattle.sql_bind.specs.Results.{ResultColumn};
+ghost use Rattle.sql_bind.specs.Results as plain;
 ghost use Rattle.sql_bind.specs.Keys as meant;
 ghost use Rattle.sql_bind.specs.Keys.{key_checks, sort_key};
 ghost use Rattle.sql_bind.specs.Views.{results_seen, form_of, HasAliases, exprs_under};
 
-use crate::results::Column;
+use crate::results::ResultColumn;
 use bumpalo::Bump;
 use indexmap::IndexMap;
-use sql_bound::{BExpr, BKey, place_expr};
+use sql_bound::{BExpr, BKey};
 use sql_names::{BindFault, Scope, bind_collation, bind_expr, collation_of};
-use sql_tree::{Expr, Key, Lit};
+use sql_tree::{Expr, Key, Lit, place};
 use sql_value::{Memory, fold, fold_byte, push};
 use std::alloc::Global;
 
@@ -81,9 +81,9 @@ fn key_form<'a>(tree: &Expr<'a>) -> KeyForm<'a>
 }
 
 /// The result at a position.
-fn at_position<'a>(results: &[Column<'a>], position: u64) -> Option<&'a BExpr<'a>>
+fn result_at<'a>(results: &[ResultColumn<'a>], position: u64) -> Option<&'a BExpr<'a>>
     ensures { option_map (λ e. expr_of e.now) result
-        ≡ meant.at_position (results_seen results.now) position }
+        ≡ meant.result_at (results_seen results.now) position }
 {
     if position == 0 {
         return None;
@@ -102,9 +102,7 @@ fn folded_key(alloc: Global, name: &[u8]) -> Result<Vec<u8>, Memory>
 {
     let mut key = Vec::new(alloc);
     for byte in name {
-        if key.push(fold_byte(*byte)).is_err() {
-            return Err(Memory);
-        }
+        key.push(fold_byte(*byte))?;
     }
     Ok(key)
 }
@@ -116,7 +114,8 @@ fn note_alias<'a>(
     alias: &[u8],
     expr: &'a BExpr<'a>,
 ) -> Result<(), Memory>
-    ensures { OnOk result ((results : List ResultColumn) → HasAliases aliases.old.entries results
+    ensures { OnOk result ((results : List plain.ResultColumn)
+        → HasAliases aliases.old.entries results
         → HasAliases aliases.new.entries
         (results ++ record { expr = expr_of expr.now; alias = Some alias.now } ∷ [])) }
 {
@@ -130,7 +129,7 @@ fn note_alias<'a>(
     Ok(())
 }
 
-fn find_aliases<'a>(alloc: Global, results: &[Column<'a>]) -> Result<Aliases<'a>, Memory>
+fn find_aliases<'a>(alloc: Global, results: &[ResultColumn<'a>]) -> Result<Aliases<'a>, Memory>
     ensures { IfOk result (λ aliases. HasAliases aliases.entries (results_seen results.now)) }
 {
     let mut aliases = IndexMap::new(alloc);
@@ -165,11 +164,11 @@ fn bind_other<'a>(
     scope: &Scope,
     tree: &Expr<'a>,
 ) -> Result<&'a BExpr<'a>, BindFault>
-    ensures { Answers (λ e. expr_of e.now) result (expr_checks scope.now (tree_of tree.now))
+    ensures { Answers (λ e. expr_of e.now) result (expr_checks scope.now None (tree_of tree.now))
         (bound scope.now (tree_of tree.now)) }
 {
-    let expr = bind_expr(alloc, arena, scope, tree)?;
-    Ok(place_expr(arena, expr)?)
+    let expr = bind_expr(alloc, arena, scope, None, tree)?;
+    Ok(place(arena, expr)?)
 }
 
 /// A result under a COLLATE of the key.
@@ -183,7 +182,7 @@ fn collated<'a>(
         (meant.under collation.now (expr_of expr.now)) }
 {
     let coll = bind_collation(alloc, collation)?;
-    Ok(place_expr(arena, BExpr::Collate(expr, coll))?)
+    Ok(place(arena, BExpr::Collate(expr, coll))?)
 }
 
 /// What a key stands for.
@@ -191,7 +190,7 @@ fn key_expr<'a>(
     alloc: Global,
     arena: &'a Bump,
     scope: &Scope,
-    results: &[Column<'a>],
+    results: &[ResultColumn<'a>],
     aliases: &Aliases<'a>,
     tree: &Expr<'a>,
 ) -> Result<&'a BExpr<'a>, BindFault>
@@ -202,7 +201,7 @@ fn key_expr<'a>(
         (meant.key_expr scope.now (results_seen results.now) (tree_of tree.now)) }
 {
     match key_form(tree) {
-        KeyForm::Position(position) => match at_position(results, position) {
+        KeyForm::Position(position) => match result_at(results, position) {
             Some(expr) => Ok(expr),
             None => Err(BindFault::BadPosition),
         },
@@ -223,7 +222,7 @@ fn bind_key<'a>(
     alloc: Global,
     arena: &'a Bump,
     scope: &Scope,
-    results: &[Column<'a>],
+    results: &[ResultColumn<'a>],
     aliases: &Aliases<'a>,
     key: &Key<'a>,
 ) -> Result<BKey<'a>, BindFault>
@@ -245,7 +244,7 @@ pub(crate) fn bind_keys<'a>(
     alloc: Global,
     arena: &'a Bump,
     scope: &Scope,
-    results: &[Column<'a>],
+    results: &[ResultColumn<'a>],
     keys: &[Key<'a>],
 ) -> Result<Vec<BKey<'a>>, BindFault>
     ensures { Answers (λ list. map sort_key_of list.items) result

@@ -1,6 +1,6 @@
 //! The columns that a statement needs of each item.
-ghost use Rattle.std.specs.Prelude.{◌≡◌, ◌<◌, ◌++◌, ◌∷◌, ◌==◌, ◌&&◌, ◌^◌, [], map, length};
-ghost use Rattle.std.specs.Prelude.{replicate, false, IfOk, OnOk};
+ghost use Rattle.std.specs.Prelude.{◌≡◌, ◌<◌, ◌==◌, ◌&&◌, ◌^◌, map, length};
+ghost use Rattle.std.specs.Prelude.{replicate, false, IfOk};
 ghost use Rattle.std.specs.List.{list_any, range_with_len};
 ghost use Rattle.sql_bound.specs.Expressions.{expr_of, members_of};
 ghost use Rattle.sql_bound.specs.Statements.{conjunct_of, sort_key_of};
@@ -12,7 +12,7 @@ ghost use Rattle.sql_bind.specs.Parts.{exprs_of_parts};
 ghost use Rattle.sql_bind.specs.Views.{results_seen};
 
 use crate::parts::Parts;
-use crate::results::Column;
+use crate::results::ResultColumn;
 use bumpalo::Bump;
 use bumpalo::collections::into_bump_slice;
 use schema_model::Table;
@@ -46,6 +46,10 @@ fn mark(marks: &mut [bool], item: u32, expr: &BExpr)
             mark(marks, item, left);
             mark_all(marks, item, entries);
         }
+        BExpr::Like(_, left, pattern) => {
+            mark(marks, item, left);
+            mark(marks, item, pattern);
+        }
         BExpr::IsNull(_, inner) => mark(marks, item, inner),
         BExpr::Not(inner) => mark(marks, item, inner),
         BExpr::All(members) => mark_all(marks, item, members),
@@ -71,7 +75,7 @@ fn mark_column(marks: &mut [bool], item: u32, named: u32, column: u32)
     }
 }
 
-fn mark_results(marks: &mut [bool], item: u32, results: &[Column])
+fn mark_results(marks: &mut [bool], item: u32, results: &[ResultColumn])
     ensures { Marks (λ column. list_any (names_column item column)
         (map (λ r. r.expr) (results_seen results.now))) marks.old marks.new }
 {
@@ -127,9 +131,7 @@ fn find_marks(alloc: Global, width: usize, item: u32, parts: &Parts) -> Result<V
         (λ column. list_any (names_column item column) (exprs_of_parts parts.now))
         (replicate width false) marks.items) }
 {
-    let Ok(mut marks) = vec![in alloc; false; width] else {
-        return Err(Memory);
-    };
+    let mut marks = vec![in alloc; false; width]?;
     mark_parts(marks.as_mut_slice(), item, parts);
     Ok(marks)
 }
@@ -185,16 +187,6 @@ fn needed_columns(
     }
 }
 
-fn push_place<'a>(needs: &mut Vec<&'a [u32], &'a Bump>, columns: &'a [u32]) -> Result<(), Memory>
-    ensures { OnOk result (map (λ columns. columns.now) needs.new.items
-        ≡ map (λ columns. columns.now) needs.old.items ++ columns.now ∷ []) }
-{
-    match needs.push(columns) {
-        Ok(()) => Ok(()),
-        Err(_) => Err(Memory),
-    }
-}
-
 /// Of each item, its columns that the statement needs.
 pub(crate) fn bind_needs<'a>(
     alloc: Global,
@@ -211,7 +203,7 @@ pub(crate) fn bind_needs<'a>(
     for item in 0..scope.count() {
         let columns = needed_columns(alloc, scope, rowids, parts, item)?;
         let place = place_slice(arena, columns.as_slice())?;
-        push_place(&mut needs, place)?;
+        push(&mut needs, place)?;
     }
     Ok(into_bump_slice(needs))
 }

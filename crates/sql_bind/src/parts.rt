@@ -9,25 +9,25 @@ ghost use Rattle.sql_bind.specs.Views.{named_of, results_seen};
 
 use crate::clauses::{changes_rows, limit_of, offset_of};
 use crate::needs::bind_needs;
-use crate::results::Column;
-use crate::sources::Named;
+use crate::results::ResultColumn;
+use crate::sources::NamedItem;
 use bumpalo::Bump;
 use bumpalo::collections::into_bump_slice;
 use sql_bound::{BExpr, BExprs, BItem, BKey, Bound, Conjunct};
 use sql_names::Scope;
 use sql_tree::{Stmt, place_slice};
-use sql_value::Memory;
+use sql_value::{Memory, push};
 use std::alloc::Global;
 
 /// The bound results, terms and keys.
 #[derive(Clone, Copy)]
 pub(crate) struct Parts<'s, 'a> {
-    pub results: &'s [Column<'a>],
+    pub results: &'s [ResultColumn<'a>],
     pub terms: &'s [Conjunct<'a>],
     pub keys: &'s [BKey<'a>],
 }
 
-fn place_items<'a>(arena: &'a Bump, list: &[Named<'a>]) -> Result<&'a [BItem<'a>], Memory>
+fn place_items<'a>(arena: &'a Bump, list: &[NamedItem<'a>]) -> Result<&'a [BItem<'a>], Memory>
     ensures items { IfOk result (λ items. map item_of items.now
         ≡ map (λ n. n.item) (map named_of list.now)) }
     ensures aliases { IfOk result (λ items. map
@@ -36,22 +36,18 @@ fn place_items<'a>(arena: &'a Bump, list: &[Named<'a>]) -> Result<&'a [BItem<'a>
 {
     let mut items: Vec<BItem<'a>, &'a Bump> = Vec::new(arena);
     for named in list {
-        if items.push(named.item).is_err() {
-            return Err(Memory);
-        }
+        push(&mut items, named.item)?;
     }
     Ok(into_bump_slice(items))
 }
 
-fn place_results<'a>(arena: &'a Bump, results: &[Column<'a>]) -> Result<BExprs<'a>, Memory>
+fn place_results<'a>(arena: &'a Bump, results: &[ResultColumn<'a>]) -> Result<BExprs<'a>, Memory>
     ensures { IfOk result (λ list. map (λ e. expr_of e.now) list.members.now
         ≡ map (λ r. r.expr) (results_seen results.now)) }
 {
     let mut members: Vec<&'a BExpr<'a>, &'a Bump> = Vec::new(arena);
     for column in results {
-        if members.push(column.expr).is_err() {
-            return Err(Memory);
-        }
+        push(&mut members, column.expr)?;
     }
     Ok(BExprs {
         members: into_bump_slice(members),
@@ -63,7 +59,7 @@ pub(crate) fn place_bound<'a>(
     alloc: Global,
     arena: &'a Bump,
     scope: &Scope,
-    list: &[Named<'a>],
+    list: &[NamedItem<'a>],
     stmt: &Stmt<'a>,
     parts: &Parts<'_, 'a>,
 ) -> Result<Bound<'a>, Memory>

@@ -1,6 +1,6 @@
 //! The result list.
 ghost use Rattle.std.specs.Prelude.{◌≡◌, ◌<◌, ◌++◌, ◌∷◌, [], length, map, flat_map, option_map};
-ghost use Rattle.std.specs.Prelude.{codes, IfOk, OnOk};
+ghost use Rattle.std.specs.Prelude.{codes, None, IfOk, OnOk};
 ghost use Rattle.sql_tree.specs.Trees.{tree_of};
 ghost use Rattle.sql_tree.specs.Statements.{item_tree};
 ghost use Rattle.sql_tree.specs.Statements.{TableStar};
@@ -11,15 +11,15 @@ ghost use Rattle.sql_bind.specs.Results.{item_columns, every_column, entry_check
 ghost use Rattle.sql_bind.specs.Views.{results_seen};
 
 use bumpalo::Bump;
-use sql_bound::{BExpr, place_expr};
+use sql_bound::BExpr;
 use sql_names::{BindFault, Scope, bind_expr, column_expr};
-use sql_tree::{Expr, Item};
+use sql_tree::{Expr, Item, place};
 use sql_value::{Bytes, Memory};
 use std::alloc::Global;
 
 /// A result, and the name that ORDER BY may call it by.
 #[derive(Clone, Copy)]
-pub(crate) struct Column<'a> {
+pub(crate) struct ResultColumn<'a> {
     pub expr: &'a BExpr<'a>,
     pub alias: Option<&'a [u8]>,
 }
@@ -29,7 +29,7 @@ const MOST_RESULTS: usize = 1 << 24;
 
 fn push<'a>(
     arena: &'a Bump,
-    results: &mut Vec<Column<'a>>,
+    results: &mut Vec<ResultColumn<'a>>,
     expr: BExpr<'a>,
     alias: Option<&'a [u8]>,
 ) -> Result<(), Memory>
@@ -43,18 +43,15 @@ fn push<'a>(
     if results.len() >= MOST_RESULTS {
         return Err(Memory);
     }
-    let expr = place_expr(arena, expr)?;
-    match results.push(Column { expr, alias }) {
-        Ok(()) => Ok(()),
-        Err(_) => Err(Memory),
-    }
+    let expr = place(arena, expr)?;
+    Ok(results.push(ResultColumn { expr, alias })?)
 }
 
 /// Appends the columns of an item.
 fn push_columns<'a>(
     arena: &'a Bump,
     scope: &Scope,
-    results: &mut Vec<Column<'a>>,
+    results: &mut Vec<ResultColumn<'a>>,
     item: u32,
 ) -> Result<(), Memory>
     requires { item < length scope.now.items }
@@ -74,7 +71,7 @@ fn push_columns<'a>(
 fn push_all_columns<'a>(
     arena: &'a Bump,
     scope: &Scope,
-    results: &mut Vec<Column<'a>>,
+    results: &mut Vec<ResultColumn<'a>>,
 ) -> Result<(), Memory>
     ensures { OnOk result
         (results_seen results.new.items ≡ results_seen results.old.items
@@ -100,7 +97,7 @@ fn push_star<'a>(
     alloc: Global,
     arena: &'a Bump,
     scope: &Scope,
-    results: &mut Vec<Column<'a>>,
+    results: &mut Vec<ResultColumn<'a>>,
     table: &[u8],
 ) -> Result<(), BindFault>
     ensures { Answers (λ _. results_seen results.new.items) result
@@ -121,19 +118,19 @@ fn push_value<'a>(
     alloc: Global,
     arena: &'a Bump,
     scope: &Scope,
-    results: &mut Vec<Column<'a>>,
+    results: &mut Vec<ResultColumn<'a>>,
     tree: &Expr<'a>,
     alias: Option<&'a [u8]>,
 ) -> Result<(), BindFault>
     ensures { Answers (λ _. results_seen results.new.items) result
-        (expr_checks scope.now (tree_of tree.now))
+        (expr_checks scope.now None (tree_of tree.now))
         (results_seen results.old.items
         ++ record {
           expr = bound scope.now (tree_of tree.now);
           alias = option_map (λ bytes. bytes.now) alias.entry;
         } ∷ []) }
 {
-    let expr = bind_expr(alloc, arena, scope, tree)?;
+    let expr = bind_expr(alloc, arena, scope, None, tree)?;
     push(arena, results, expr, alias)?;
     Ok(())
 }
@@ -143,7 +140,7 @@ fn push_entry<'a>(
     alloc: Global,
     arena: &'a Bump,
     scope: &Scope,
-    results: &mut Vec<Column<'a>>,
+    results: &mut Vec<ResultColumn<'a>>,
     entry: &Item<'a>,
 ) -> Result<(), BindFault>
     ensures { Answers (λ _. results_seen results.new.items) result
@@ -166,7 +163,7 @@ pub(crate) fn bind_results<'a>(
     arena: &'a Bump,
     scope: &Scope,
     entries: &[Item<'a>],
-) -> Result<Vec<Column<'a>>, BindFault>
+) -> Result<Vec<ResultColumn<'a>>, BindFault>
     ensures { Answers (λ results. results_seen results.items) result
         (flat_map (entry_checks scope.now) (map item_tree entries.now))
         (flat_map (results_of scope.now) (map item_tree entries.now)) }

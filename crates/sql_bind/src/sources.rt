@@ -4,6 +4,7 @@ ghost use Rattle.std.specs.List.{AllByRecursion};
 ghost use Rattle.sql_meaning.specs.Letters.{folded_bytes};
 ghost use Rattle.sql_tree.specs.Statements.{source_tree};
 ghost use Rattle.schema_model.specs.Schemas.{found_table};
+ghost use Rattle.sql_bound.specs.Fits.{most_items};
 ghost use Rattle.sql_names.specs.Faults.{Answers};
 ghost use Rattle.sql_bind.specs.Sources as meant;
 ghost use Rattle.sql_bind.specs.Sources.{table_fault, table_checks, name_checks, named_item};
@@ -19,7 +20,7 @@ use std::alloc::Global;
 
 /// An item of FROM, and the name that the other clauses know it by.
 #[derive(Clone, Copy)]
-pub(crate) struct Named<'a> {
+pub(crate) struct NamedItem<'a> {
     pub name: &'a [u8],
     pub item: BItem<'a>,
 }
@@ -44,20 +45,20 @@ fn find_item<'a>(
     alloc: Global,
     schema: &Schema,
     source: &Source<'a>,
-) -> Result<Named<'a>, BindFault>
+) -> Result<NamedItem<'a>, BindFault>
     ensures answer { Answers named_of result
         (table_checks schema.now (source_tree source.now))
         (named_item schema.now (source_tree source.now)) }
     ensures there { IfOk result (λ n. n.item.table < length schema.now.tables) }
 {
     let table = table_number(alloc, schema, source.table)?;
-    Ok(Named {
+    Ok(NamedItem {
         name: source.alias.unwrap_or(source.table),
         item: BItem {
             table,
             alias: source.alias,
             cross: source.cross,
-            left: false,
+            left: source.left,
         },
     })
 }
@@ -67,7 +68,7 @@ pub(crate) fn find_items<'a>(
     alloc: Global,
     schema: &Schema,
     sources: &[Source<'a>],
-) -> Result<Vec<Named<'a>>, BindFault>
+) -> Result<Vec<NamedItem<'a>>, BindFault>
     ensures answer { Answers (λ list. map named_of list.items) result
         (flat_map (table_checks schema.now) (map source_tree sources.now))
         (map (named_item schema.now) (map source_tree sources.now)) }
@@ -86,9 +87,9 @@ pub(crate) fn find_items<'a>(
 pub(crate) fn scope_of<'s, 'a>(
     alloc: Global,
     schema: &'s Schema,
-    list: &'s [Named<'a>],
+    list: &'s [NamedItem<'a>],
 ) -> Result<Scope<'s>, BindFault>
-    requires few { length list.now ≤ 64 }
+    requires few { length list.now ≤ most_items }
     requires there { AllByRecursion (λ n. n.item.table < length schema.now.tables) list.now }
     ensures { Answers (λ scope. scope) result
         (name_checks [] (map (λ n. n.name) (map named_of list.now)))

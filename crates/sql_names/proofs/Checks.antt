@@ -39,3 +39,9 @@ pub answers_after : {X Y : Type 0} (view : X → Y) (r : Result X BindFault)
     → Answers view r ys meant → Answers view r (xs ++ ys) whole
 answers_after view (Ok x) xs ys meant whole passed is h = (both_pass xs ys passed h.0, h.1 ∙ is)
 answers_after view (Err fault) xs ys meant whole passed is h = fails_after fault xs ys passed h
+
+pub passed_both : (xs ys : List (Option BindFault)) → first_failing (xs ++ ys) ≡ None
+    → (first_failing xs ≡ None) × (first_failing ys ≡ None)
+passed_both [] ys h = (refl, h)
+passed_both (None ∷ xs) ys h = passed_both xs ys h
+passed_both (Some fault ∷ xs) ys h = absurd (cc)

@@ -3,6 +3,7 @@ pub mod Lists
 pub mod Checks
 pub mod Tables
 pub mod Sound
+pub mod Stays
 pub mod Columns
 pub mod Trees
 pub mod Parts

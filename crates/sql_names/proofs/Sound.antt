@@ -19,9 +19,9 @@ use Rattle.schema_model.specs.Schemas.{Schema, found_column}
 use Rattle.schema_model.specs.Names.{is_name}
 use Rattle.schema_model.specs.Columns.{has_column_name}
 use Rattle.schema_model.specs.declared.tables.Table.{Table}
-use Rattle.sql_bound.specs.Fits.{IsSound, NamesExist, AllNamesExist, width}
+use Rattle.sql_bound.specs.Fits.{NamesExist, AllNamesExist, width}
 use Rattle.sql_names.specs.Scopes.{Scope, IsScope, table_of, table_at}
-use Rattle.sql_names.specs.Names.{Meaning, Means, Ambiguous, Unknown}
+use Rattle.sql_names.specs.Names.{Meaning, Denotes, Ambiguous, Unknown}
 use Rattle.sql_names.specs.Names.{column_expr, column_in}
 use Rattle.sql_names.specs.Names.{rowid_in, named_at, item_named, columns_named, among}
 use Rattle.sql_names.specs.Names.{constant, only_rowid, without_column, if_known}
@@ -54,8 +54,17 @@ all_kept : {X Y : Type 0} (P : Y → Type 0) (h : X → Option Y)
 all_kept P h each [] = tt
 all_kept P h each (x ∷ xs) = kept P h x (filter_map h xs) (h x) refl (each x) (all_kept P h each xs)
 
-abbrev Sound : Scope → BExpr → Type 0
-Sound scope e = IsSound (plain_schema scope.schema) scope.items e
+-- a name denotes a column, a rowid or a constant
+abbrev pub IsPart : BExpr → Type 0
+IsPart (Lit v) = Unit {0}
+IsPart (Column item column) = Unit {0}
+IsPart (Rowid item) = Unit {0}
+IsPart e = ⊥
+
+record Sound (scope : Scope) (e : BExpr) : Type 0 where
+  pub names : NamesExist (plain_schema scope.schema) scope.items e
+  pub conversions : FitsExpr (plain_schema scope.schema) scope.items e
+  pub part : IsPart e
 
 abbrev SoundIf : Scope → Option BExpr → Type 0
 SoundIf scope None = Unit {0}
@@ -70,14 +79,14 @@ sound_of scope (Some f) e is h = rw (← given f e is) h
     given f e is = cc
 
 rowid_sound : (scope : Scope) (item : ℕ) → item < length scope.items → Sound scope (Rowid item)
-rowid_sound scope item h = record { names = h; conversions = tt }
+rowid_sound scope item h = record { names = h; conversions = tt; part = tt }
 
 -- the column or the rowid, whichever the number of the alias says
 chosen : (scope : Scope) (alias : Bool) (item column : ℕ) → item < length scope.items
     → column < width (plain_schema scope.schema) scope.items item
     → Sound scope (cond alias (Rowid item) (Column item column))
-chosen scope true item column h w = record { names = h; conversions = tt }
-chosen scope false item column h w = record { names = (h, w); conversions = tt }
+chosen scope true item column h w = record { names = h; conversions = tt; part = tt }
+chosen scope false item column h w = record { names = (h, w); conversions = tt; part = tt }
 
 found_sound : (scope : Scope) (item : ℕ) (table : Table) → table_at scope item ≡ Some table
     → (column : Option ℕ) → ((n : ℕ) → column ≡ Some n → n < length table.columns)
@@ -106,13 +115,13 @@ or_sound : (scope : Scope) (o p : Option BExpr) → SoundIf scope o → SoundIf 
 or_sound scope None p h k = k
 or_sound scope (Some e) p h k = h
 
-abbrev Means_sound : Scope → Meaning → Type 0
-Means_sound scope m = Sound scope (meant_expr m)
+abbrev SoundMeaning : Scope → Meaning → Type 0
+SoundMeaning scope m = Sound scope (meant_expr m)
 
 nothing_sound : (scope : Scope) → Sound scope (Lit Null)
-nothing_sound scope = record { names = tt; conversions = tt }
+nothing_sound scope = record { names = tt; conversions = tt; part = tt }
 
-known_sound : (scope : Scope) (o : Option BExpr) → SoundIf scope o → Means_sound scope (if_known o)
+known_sound : (scope : Scope) (o : Option BExpr) → SoundIf scope o → SoundMeaning scope (if_known o)
 known_sound scope None h = nothing_sound scope
 known_sound scope (Some e) h = h
 
@@ -126,27 +135,27 @@ named_sound scope lower (Some item) within =
     (rowid_if_sound scope item (is_rowid_name lower) (within item refl))
 
 constant_sound : (scope : Scope) (first second : Bool)
-    → Means_sound scope
-    (cond first (Means (Lit (Int (pos 1)))) (cond second (Means (Lit (Int (pos 0)))) Unknown))
-constant_sound scope true second = record { names = tt; conversions = tt }
-constant_sound scope false true = record { names = tt; conversions = tt }
+    → SoundMeaning scope
+    (cond first (Denotes (Lit (Int (pos 1)))) (cond second (Denotes (Lit (Int (pos 0)))) Unknown))
+constant_sound scope true second = record { names = tt; conversions = tt; part = tt }
+constant_sound scope false true = record { names = tt; conversions = tt; part = tt }
 constant_sound scope false false = nothing_sound scope
 
 only_sound : (scope : Scope) (one : Bool) → (length scope.items == 1) ≡ one
-    → Means_sound scope (cond one (Means (Rowid 0)) Ambiguous)
+    → SoundMeaning scope (cond one (Denotes (Rowid 0)) Ambiguous)
 only_sound scope true is =
     let count : length scope.items ≡ 1 = eqb-true (length scope.items) 1 is in
     rowid_sound scope 0 (omega (arith, count))
 only_sound scope false is = nothing_sound scope
 
 without_sound : (scope : Scope) (rowid : Bool) (lower : List ℕ)
-    → Means_sound scope (cond rowid (only_rowid (length scope.items)) (constant lower))
+    → SoundMeaning scope (cond rowid (only_rowid (length scope.items)) (constant lower))
 without_sound scope true lower = only_sound scope (length scope.items == 1) refl
 without_sound scope false lower =
     constant_sound scope (is_name lower (codes "true")) (is_name lower (codes "false"))
 
 among_sound : (scope : Scope) (es : List BExpr) (other : Meaning) → AllByRecursion (Sound scope) es
-    → Means_sound scope other → Means_sound scope (among es other)
+    → SoundMeaning scope other → SoundMeaning scope (among es other)
 among_sound scope [] other all h = h
 among_sound scope (e ∷ []) other all h = all.0
 among_sound scope (e ∷ f ∷ es) other all h = nothing_sound scope
@@ -171,6 +180,10 @@ name_sound scope is (Some table) name =
     (λ n at. (let small = position_within (is_name (folded_bytes table)) scope.names n at in
     rw is.named at small)))
 
+pub name_is_part : (scope : Scope) → IsScope scope → (table : Option (List ℕ)) (name : List ℕ)
+    → IsPart (name_expr scope table name)
+name_is_part scope is table name = (name_sound scope is table name).part
+
 mutual
   exist : (scope : Scope) → IsScope scope → (t : Tree)
       → NamesExist (plain_schema scope.schema) scope.items (bound scope t)
@@ -185,6 +198,7 @@ mutual
   exist scope is (tree.Between false x low high) =
       ((exist scope is x, exist scope is low), ((exist scope is x, exist scope is high), tt))
   exist scope is (tree.OneOf negated x xs) = (exist scope is x, all_exist scope is xs)
+  exist scope is (tree.Like negated x pattern) = (exist scope is x, exist scope is pattern)
   exist scope is (tree.IsNull negated x) = exist scope is x
   exist scope is (tree.Not x) = exist scope is x
   exist scope is (tree.All xs) = all_exist scope is xs
@@ -213,6 +227,7 @@ mutual
     ((refl, refl, fits scope is x, fits scope is high), tt),
   )
   fits scope is (tree.OneOf negated x xs) = (refl, fits scope is x, all_fit scope is xs)
+  fits scope is (tree.Like negated x pattern) = (fits scope is x, fits scope is pattern)
   fits scope is (tree.IsNull negated x) = fits scope is x
   fits scope is (tree.Not x) = fits scope is x
   fits scope is (tree.All xs) = all_fit scope is xs

@@ -7,7 +7,7 @@ use Rattle.sql_tree.specs.declared.expression.Op.{Op}
 use Rattle.sql_tree.specs.declared.expression.Expr.{Expr}
 use Rattle.sql_tree.specs.declared.expression.Expr.TheVariants as variant
 use Rattle.sql_tree.specs.declared.expression.Expr.TheViews.{rolls-Cmp, rolls-Between}
-use Rattle.sql_tree.specs.declared.expression.Expr.TheViews.{rolls-Collate}
+use Rattle.sql_tree.specs.declared.expression.Expr.TheViews.{rolls-Collate, rolls-Like}
 use Rattle.sql_tree.specs.declared.expression.Expr.TheFolds.{fold-roll-Expr}
 use Rattle.sql_tree.specs.declared.expression.Expr.TheOpen as node
 
@@ -29,3 +29,10 @@ pub tree_of-Between : (negated : Bool) (x low high : Bor Expr)
 tree_of-Between negated x low high =
     ap tree_of (sym (rolls-Between negated x low high))
     ∙ fold-roll-Expr Tree Trees node_step list_step (node.Between negated x low high)
+
+pub tree_of-Like : (negated : Bool) (x pattern : Bor Expr)
+    → tree_of (variant.Like negated x pattern)
+    ≡ tree.Like negated (tree_of x.now) (tree_of pattern.now)
+tree_of-Like negated x pattern =
+    ap tree_of (sym (rolls-Like negated x pattern))
+    ∙ fold-roll-Expr Tree Trees node_step list_step (node.Like negated x pattern)

@@ -33,7 +33,7 @@ with_front-end (f ∷ fs) = ap (More f) (with_front-end fs)
 abbrev pub tree_members : List (Bor Expr) → Trees
 tree_members rs = trees (map tree_of (map (λ member. member.now) rs))
 
-module _ (scope : Scope) (members : List (Bor Expr)) (i : ℕ) where
+module _ (scope : Scope) (owner : Option ℕ) (members : List (Bor Expr)) (i : ℕ) where
   abbrev pub here : Bor Expr → Trees
   here d = more (tree_of (get_or members i d).now) (tree_members (drop (i + 1) members))
 
@@ -44,14 +44,14 @@ module _ (scope : Scope) (members : List (Bor Expr)) (i : ℕ) where
       ap tree_members turn
 
   pub checks_turn : (d : Bor Expr) (whole : Option BindFault) → i < length members
-      → first_failing (expr_checks scope (tree_of (get_or members i d).now)) ≡ None
-      → first_failing (all_checks scope (tree_members (drop i members))) ≡ whole
-      → first_failing (all_checks scope (tree_members (drop (i + 1) members))) ≡ whole
+      → first_failing (expr_checks scope owner (tree_of (get_or members i d).now)) ≡ None
+      → first_failing (all_checks scope owner (tree_members (drop i members))) ≡ whole
+      → first_failing (all_checks scope owner (tree_members (drop (i + 1) members))) ≡ whole
   checks_turn d whole below passed invariant =
       sym
-      (passed_first (expr_checks scope (tree_of (get_or members i d).now))
-      (all_checks scope (tree_members (drop (i + 1) members))) passed)
-      ∙ sym (ap (λ ts. first_failing (all_checks scope ts)) (cut d below))
+      (passed_first (expr_checks scope owner (tree_of (get_or members i d).now))
+      (all_checks scope owner (tree_members (drop (i + 1) members))) passed)
+      ∙ sym (ap (λ ts. first_failing (all_checks scope owner ts)) (cut d below))
       ∙ invariant
 
   pub bound_turn : (d : Bor Expr) (before : List Declared) (e : Declared) (now : List Declared)
@@ -72,22 +72,24 @@ module _ (scope : Scope) (members : List (Bor Expr)) (i : ℕ) where
   pub fails_turn : (d : Bor Expr) (fault : BindFault) (whole : Option BindFault)
       → i < length members
       → ((fault ≡ Memory → ⊥)
-      → first_failing (expr_checks scope (tree_of (get_or members i d).now)) ≡ Some fault)
-      → first_failing (all_checks scope (tree_members (drop i members))) ≡ whole
+      → first_failing (expr_checks scope owner (tree_of (get_or members i d).now)) ≡ Some fault)
+      → first_failing (all_checks scope owner (tree_members (drop i members))) ≡ whole
       → (fault ≡ Memory → ⊥) → whole ≡ Some fault
   fails_turn d fault whole below fails invariant other =
       sym invariant
-      ∙ ap (λ ts. first_failing (all_checks scope ts)) (cut d below)
-      ∙ fails_through fault (expr_checks scope (tree_of (get_or members i d).now))
-      (all_checks scope (tree_members (drop (i + 1) members))) fails other
+      ∙ ap (λ ts. first_failing (all_checks scope owner ts)) (cut d below)
+      ∙ fails_through fault (expr_checks scope owner (tree_of (get_or members i d).now))
+      (all_checks scope owner (tree_members (drop (i + 1) members))) fails other
 
   ended : length members ≤ i → drop i members ≡ []
   ended past = drop_all i members past
 
   pub checks_end : (whole : Option BindFault) → length members ≤ i
-      → first_failing (all_checks scope (tree_members (drop i members))) ≡ whole → whole ≡ None
+      → first_failing (all_checks scope owner (tree_members (drop i members))) ≡ whole
+      → whole ≡ None
   checks_end whole past invariant =
-      sym invariant ∙ ap (λ rs. first_failing (all_checks scope (tree_members rs))) (ended past)
+      sym invariant
+      ∙ ap (λ rs. first_failing (all_checks scope owner (tree_members rs))) (ended past)
 
   pub bound_end : (made : List Declared) (whole : BExprs) → length members ≤ i
       → with_front (map expr_of made) (all_bound scope (tree_members (drop i members))) ≡ whole

@@ -1,12 +1,12 @@
 -- What an expression is bound to, and the checks on its names (datatype3, 4; lang_expr).
-use Rattle.std.specs.Prelude.{Bool, true, false, Option, None, List, [], ◌∷◌, ◌++◌, map}
+use Rattle.std.specs.Prelude.{ℕ, Bool, true, false, Option, None, List, [], ◌∷◌, ◌++◌, map}
 use Rattle.sql_meaning.specs.Conversions.{side_conversion}
 use Rattle.sql_meaning.specs.Values.{Affinity}
 use Rattle.sql_meaning.specs.Items.{expr_affinity}
 use Rattle.sql_meaning.specs.Expressions as plain
 use Rattle.sql_meaning.specs.Expressions.{BExpr, BExprs, IsAtLeast, IsAtMost, Nil, More}
 use Rattle.sql_tree.specs.Trees.{Tree, Trees, Lit, Param, Name, Plus, Collate, Cmp, Between, OneOf}
-use Rattle.sql_tree.specs.Trees.{IsNull, Not, All, Any, end, more, trees, tree_of}
+use Rattle.sql_tree.specs.Trees.{Like, IsNull, Not, All, Any, end, more, trees, tree_of}
 use Rattle.sql_tree.specs.declared.expression.Exprs.{Exprs}
 use Rattle.schema_model.specs.PlainSchemas.{plain_schema}
 use Rattle.sql_bound.specs.Expressions.{plain_op}
@@ -55,6 +55,8 @@ abbrev mutual
   bound scope (Between negated x low high) =
       between scope negated (bound scope x) (bound scope low) (bound scope high)
   bound scope (OneOf negated x xs) = one_of scope negated (bound scope x) (all_bound scope xs)
+  bound scope (Like negated x pattern) =
+      plain.Like negated (bound scope x) (bound scope pattern)
   bound scope (IsNull negated x) = plain.IsNull negated (bound scope x)
   bound scope (Not x) = plain.Not (bound scope x)
   bound scope (All xs) = plain.All (all_bound scope xs)
@@ -64,26 +66,30 @@ abbrev mutual
   all_bound scope end = Nil
   all_bound scope (more x xs) = More (bound scope x) (all_bound scope xs)
 
--- the checks of names and collations from left to right, an operand's before its COLLATE's
+-- the checks of names and collations from left to right, an operand's before its COLLATE's, of an
+-- expression that stands in the owner's ON condition
 abbrev mutual
-  pub expr_checks : Scope → Tree → List (Option BindFault)
-  expr_checks scope (Lit v) = []
-  expr_checks scope (Param number) = []
-  expr_checks scope (Name table name) = name_check scope table name ∷ []
-  expr_checks scope (Plus x) = expr_checks scope x
-  expr_checks scope (Collate x name) = expr_checks scope x ++ collation_check name ∷ []
-  expr_checks scope (Cmp op x y) = expr_checks scope x ++ expr_checks scope y
-  expr_checks scope (Between negated x low high) =
-      expr_checks scope x ++ (expr_checks scope low ++ expr_checks scope high)
-  expr_checks scope (OneOf negated x xs) = expr_checks scope x ++ all_checks scope xs
-  expr_checks scope (IsNull negated x) = expr_checks scope x
-  expr_checks scope (Not x) = expr_checks scope x
-  expr_checks scope (All xs) = all_checks scope xs
-  expr_checks scope (Any xs) = all_checks scope xs
+  pub expr_checks : Scope → Option ℕ → Tree → List (Option BindFault)
+  expr_checks scope owner (Lit v) = []
+  expr_checks scope owner (Param number) = []
+  expr_checks scope owner (Name table name) = name_check scope owner table name ∷ []
+  expr_checks scope owner (Plus x) = expr_checks scope owner x
+  expr_checks scope owner (Collate x name) = expr_checks scope owner x ++ collation_check name ∷ []
+  expr_checks scope owner (Cmp op x y) = expr_checks scope owner x ++ expr_checks scope owner y
+  expr_checks scope owner (Between negated x low high) =
+      expr_checks scope owner x ++ (expr_checks scope owner low ++ expr_checks scope owner high)
+  expr_checks scope owner (OneOf negated x xs) =
+      expr_checks scope owner x ++ all_checks scope owner xs
+  expr_checks scope owner (Like negated x pattern) =
+      expr_checks scope owner x ++ expr_checks scope owner pattern
+  expr_checks scope owner (IsNull negated x) = expr_checks scope owner x
+  expr_checks scope owner (Not x) = expr_checks scope owner x
+  expr_checks scope owner (All xs) = all_checks scope owner xs
+  expr_checks scope owner (Any xs) = all_checks scope owner xs
 
-  pub all_checks : Scope → Trees → List (Option BindFault)
-  all_checks scope end = []
-  all_checks scope (more x xs) = expr_checks scope x ++ all_checks scope xs
+  pub all_checks : Scope → Option ℕ → Trees → List (Option BindFault)
+  all_checks scope owner end = []
+  all_checks scope owner (more x xs) = expr_checks scope owner x ++ all_checks scope owner xs
 
 -- the trees of the members of a form that has a list of them
 abbrev pub trees_of : Exprs → Trees

@@ -8,7 +8,7 @@ use Rattle.sql_meaning.specs.Schemas.{Schema}
 use Rattle.sql_meaning.specs.Items.{Item, own_column}
 use Rattle.sql_meaning.specs.Rows.{AtColumn}
 use Rattle.sql_meaning.specs.Expressions.{BExpr, BExprs, Lit, Param, Column, Rowid, Plus, Collate}
-use Rattle.sql_meaning.specs.Expressions.{Cmp, OneOf, IsNull, Not, All, Any, Nil, More}
+use Rattle.sql_meaning.specs.Expressions.{Cmp, OneOf, Like, IsNull, Not, All, Any, Nil, More}
 use Rattle.sql_names.specs.declared.faults.BindFault.{BindFault}
 use Rattle.sql_names.specs.declared.faults.BindFault.TheVariants.{NoSuchCollation}
 
@@ -25,6 +25,7 @@ abbrev mutual
       option_or (explicit left) (explicit right)
   explicit (OneOf negated left entries entry_conversion collation) =
       option_or (explicit left) (explicit_among entries)
+  explicit (Like negated e pattern) = option_or (explicit e) (explicit pattern)
   explicit (IsNull negated e) = explicit e
   explicit (Not e) = explicit e
   explicit (All es) = explicit_among es
@@ -45,6 +46,7 @@ own_collation schema items (Plus e) = own_collation schema items e
 own_collation schema items (Collate e collation) = own_collation schema items e
 own_collation schema items (Cmp op left right lc rc collation) = None
 own_collation schema items (OneOf negated left entries ec collation) = None
+own_collation schema items (Like negated e pattern) = None
 own_collation schema items (IsNull negated e) = None
 own_collation schema items (Not e) = None
 own_collation schema items (All es) = None

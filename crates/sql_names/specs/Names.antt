@@ -1,6 +1,7 @@
 -- What a name means (lang_expr, "Column Names"; lang_createtable, "ROWIDs and the INTEGER PRIMARY
 -- KEY"; lang_expr, "Boolean Expressions", for TRUE and FALSE).
-use Rattle.std.specs.Prelude.{ℕ, pos, ◌==◌, Bool, cond, Option, None, Some, option_map}
+use Rattle.std.specs.Prelude.{ℕ, pos, ◌==◌, nat_lt, Bool, false, cond, if◌then◌else◌}
+use Rattle.std.specs.Prelude.{Option, None, Some, option_map}
 use Rattle.std.specs.Prelude.{List, [], ◌∷◌, ◌++◌, length, position, codes}
 use Rattle.std.specs.Option.{option_or}
 use Rattle.std.specs.List.{filter_map}
@@ -15,6 +16,7 @@ use Rattle.schema_model.specs.declared.tables.Table.{Table}
 use Rattle.sql_names.specs.Scopes.{Scope, table_at}
 use Rattle.sql_names.specs.declared.faults.BindFault.{BindFault}
 use Rattle.sql_names.specs.declared.faults.BindFault.TheVariants.{NoSuchColumn, AmbiguousColumn}
+use Rattle.sql_names.specs.declared.faults.BindFault.TheVariants.{RightName}
 
 -- A name that is looked for in tables, `lower` here, has its letters made lower.
 
@@ -54,19 +56,19 @@ columns_named scope lower =
     (numbers_from 0 (length scope.items))
 
 pub data Meaning : Type 0 where
-  Means : (e : BExpr) → Meaning
+  Denotes : (e : BExpr) → Meaning
   Ambiguous : Meaning
   Unknown : Meaning
 
 -- TRUE and FALSE are 1 and 0
 abbrev pub constant : List ℕ → Meaning
 constant lower =
-    cond (is_name lower (codes "true")) (Means (Lit (Int (pos 1)))) (
-    cond (is_name lower (codes "false")) (Means (Lit (Int (pos 0)))) Unknown)
+    cond (is_name lower (codes "true")) (Denotes (Lit (Int (pos 1)))) (
+    cond (is_name lower (codes "false")) (Denotes (Lit (Int (pos 0)))) Unknown)
 
 -- the rowid of the one item
 abbrev pub only_rowid : ℕ → Meaning
-only_rowid count = cond (count == 1) (Means (Rowid 0)) Ambiguous
+only_rowid count = cond (count == 1) (Denotes (Rowid 0)) Ambiguous
 
 -- a name that no item has as a column
 abbrev pub without_column : Scope → List ℕ → Meaning
@@ -75,12 +77,12 @@ without_column scope lower =
 
 abbrev pub among : List BExpr → Meaning → Meaning
 among [] other = other
-among (e ∷ []) other = Means e
+among (e ∷ []) other = Denotes e
 among (e ∷ f ∷ es) other = Ambiguous
 
 abbrev pub if_known : Option BExpr → Meaning
 if_known None = Unknown
-if_known (Some e) = Means e
+if_known (Some e) = Denotes e
 
 abbrev pub bare_meaning : Scope → List ℕ → Meaning
 bare_meaning scope lower = among (columns_named scope lower) (without_column scope lower)
@@ -97,17 +99,27 @@ abbrev pub shown : Option (List ℕ) → List ℕ → List ℕ
 shown None name = name
 shown (Some table) name = table ++ codes "." ++ name
 
-abbrev pub meaning_check : Meaning → List ℕ → Option BindFault
-meaning_check (Means e) text = None
-meaning_check Ambiguous text = Some (AmbiguousColumn text)
-meaning_check Unknown text = Some (NoSuchColumn text)
+-- what a name denotes is of an item to the right of the owner
+abbrev pub is_right_of : Option ℕ → BExpr → Bool
+is_right_of None e = false
+is_right_of (Some owner) (Column item column) = nat_lt owner item
+is_right_of (Some owner) (Rowid item) = nat_lt owner item
+is_right_of (Some owner) e = false
 
-abbrev pub name_check : Scope → Option (List ℕ) → List ℕ → Option BindFault
-name_check scope table name = meaning_check (meaning_of scope table name) (shown table name)
+-- a name in the ON condition of a LEFT JOIN, whose item is the owner, denotes nothing to the right
+-- of that item (lang_select, "Determination of input data"); any other name has no owner
+abbrev pub meaning_check : Option ℕ → Meaning → List ℕ → Option BindFault
+meaning_check owner (Denotes e) text = if is_right_of owner e then Some (RightName text) else None
+meaning_check owner Ambiguous text = Some (AmbiguousColumn text)
+meaning_check owner Unknown text = Some (NoSuchColumn text)
+
+abbrev pub name_check : Scope → Option ℕ → Option (List ℕ) → List ℕ → Option BindFault
+name_check scope owner table name =
+    meaning_check owner (meaning_of scope table name) (shown table name)
 
 -- NULL stands where a name means nothing
 abbrev pub meant_expr : Meaning → BExpr
-meant_expr (Means e) = e
+meant_expr (Denotes e) = e
 meant_expr Ambiguous = Lit Null
 meant_expr Unknown = Lit Null
 

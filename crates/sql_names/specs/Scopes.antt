@@ -3,6 +3,7 @@ use Rattle.std.specs.Prelude.{◌≡◌, ◌<◌, ◌≤◌, ℕ, Option, None, 
 use Rattle.std.specs.Prelude.{slice_get}
 use Rattle.std.specs.List.{AllByRecursion}
 use Rattle.sql_meaning.specs.Items.{Item}
+use Rattle.sql_bound.specs.Fits.{most_items}
 use Rattle.schema_model.specs.Names.{Differ}
 use Rattle.schema_model.specs.Schemas.{Schema}
 use Rattle.schema_model.specs.declared.tables.Table.{Table}
@@ -31,9 +32,9 @@ with_item scope name item = record {
   items = scope.items ++ item ∷ [];
 }
 
--- at most 64 items of tables that are there, whose names differ
+-- no more items than a statement may have, of tables that are there, whose names differ
 pub record IsScope (scope : Scope) : Type 0 where
   pub named : length scope.names ≡ length scope.items
-  pub few : length scope.items ≤ 64
+  pub few : length scope.items ≤ most_items
   pub tables : AllByRecursion (λ i. i.table < length scope.schema.tables) scope.items
   pub differ : Differ scope.names

@@ -7,7 +7,7 @@ ghost use Rattle.sql_names.specs.Faults.{Answers};
 ghost use Rattle.sql_names.specs.Binding as meant;
 ghost use Rattle.sql_names.specs.Binding.{trees_of};
 ghost use Rattle.sql_names.specs.Collating.{collation_check, collation_or};
-ghost use Rattle.sql_names.specs.Laws.{BoundIsSound};
+ghost use Rattle.sql_names.specs.Laws.{BoundIsSound, BoundStaysLeft};
 
 use crate::collating::{affinity, bind_collation, collation_of, compared_under};
 use crate::names::bind_name;
@@ -88,6 +88,7 @@ fn between<'a>(
 }
 
 /// The expression with its names bound to the items of the scope and their columns, in the arena.
+/// One in the ON condition of a LEFT JOIN has the item of that as its owner.
 ///
 /// Its names and collations are checked from left to right, an operand before its COLLATE, and the
 /// first one that fails is the fault: as `bind_name` and `bind_collation` say. `Memory` says
@@ -98,53 +99,59 @@ pub fn bind_expr<'a>(
     alloc: Global,
     arena: &'a Bump,
     scope: &Scope,
+    owner: Option<u32>,
     expr: &Expr<'a>,
 ) -> Result<BExpr<'a>, BindFault>
-    ensures { Answers expr_of result (meant.expr_checks scope.now (tree_of expr.now))
+    ensures { Answers expr_of result (meant.expr_checks scope.now owner (tree_of expr.now))
         (meant.bound scope.now (tree_of expr.now)) }
 {
     match expr {
         Expr::Lit(constant) => Ok(BExpr::Lit(*constant)),
         Expr::Param(number) => Ok(BExpr::Param(*number)),
-        Expr::Name(table, name) => bind_name(alloc, scope, *table, name),
+        Expr::Name(table, name) => bind_name(alloc, scope, owner, *table, name),
         Expr::Plus(inner) => {
-            let inner = bind_expr(alloc, arena, scope, inner)?;
+            let inner = bind_expr(alloc, arena, scope, owner, inner)?;
             Ok(sql_bound::plus(arena, inner)?)
         }
         Expr::Collate(operand, name) => {
-            let operand = bind_expr(alloc, arena, scope, operand)?;
+            let operand = bind_expr(alloc, arena, scope, owner, operand)?;
             collated(alloc, arena, operand, name)
         }
         Expr::Cmp(op, left, right) => {
-            let left = bind_expr(alloc, arena, scope, left)?;
-            let right = bind_expr(alloc, arena, scope, right)?;
+            let left = bind_expr(alloc, arena, scope, owner, left)?;
+            let right = bind_expr(alloc, arena, scope, owner, right)?;
             Ok(compared(arena, scope, *op, left, right)?)
         }
         Expr::Between(negated, middle, low, high) => {
-            let middle = bind_expr(alloc, arena, scope, middle)?;
-            let low = bind_expr(alloc, arena, scope, low)?;
-            let high = bind_expr(alloc, arena, scope, high)?;
+            let middle = bind_expr(alloc, arena, scope, owner, middle)?;
+            let low = bind_expr(alloc, arena, scope, owner, low)?;
+            let high = bind_expr(alloc, arena, scope, owner, high)?;
             Ok(between(arena, scope, *negated, middle, low, high)?)
         }
         Expr::OneOf(negated, sought, entries) => {
-            let sought = bind_expr(alloc, arena, scope, sought)?;
-            let entries = bind_all(alloc, arena, scope, entries)?;
+            let sought = bind_expr(alloc, arena, scope, owner, sought)?;
+            let entries = bind_all(alloc, arena, scope, owner, entries)?;
             Ok(one_of(arena, scope, *negated, sought, entries.as_slice())?)
         }
+        Expr::Like(negated, matched, pattern) => {
+            let matched = bind_expr(alloc, arena, scope, owner, matched)?;
+            let pattern = bind_expr(alloc, arena, scope, owner, pattern)?;
+            Ok(sql_bound::like(arena, *negated, matched, pattern)?)
+        }
         Expr::IsNull(negated, inner) => {
-            let inner = bind_expr(alloc, arena, scope, inner)?;
+            let inner = bind_expr(alloc, arena, scope, owner, inner)?;
             Ok(sql_bound::is_null(arena, *negated, inner)?)
         }
         Expr::Not(inner) => {
-            let inner = bind_expr(alloc, arena, scope, inner)?;
+            let inner = bind_expr(alloc, arena, scope, owner, inner)?;
             Ok(sql_bound::not(arena, inner)?)
         }
         Expr::All(list) => {
-            let members = bind_all(alloc, arena, scope, list)?;
+            let members = bind_all(alloc, arena, scope, owner, list)?;
             Ok(sql_bound::all(arena, members.as_slice())?)
         }
         Expr::Any(list) => {
-            let members = bind_all(alloc, arena, scope, list)?;
+            let members = bind_all(alloc, arena, scope, owner, list)?;
             Ok(sql_bound::any(arena, members.as_slice())?)
         }
     }
@@ -155,15 +162,16 @@ fn bind_all<'a>(
     alloc: Global,
     arena: &'a Bump,
     scope: &Scope,
+    owner: Option<u32>,
     list: &Exprs<'a>,
 ) -> Result<Vec<BExpr<'a>>, BindFault>
     ensures { Answers (λ members. exprs (map expr_of members.items)) result
-        (meant.all_checks scope.now (trees_of list.now))
+        (meant.all_checks scope.now owner (trees_of list.now))
         (meant.all_bound scope.now (trees_of list.now)) }
 {
     let mut members = Vec::new(alloc);
     for member in list.members {
-        let bound = bind_expr(alloc, arena, scope, member)?;
+        let bound = bind_expr(alloc, arena, scope, owner, member)?;
         push(&mut members, bound)?;
     }
     Ok(members)
@@ -173,4 +181,10 @@ fn bind_all<'a>(
 /// operands ask for.
 pub fn bound_is_sound()
     ensures { BoundIsSound }
+{}
+
+/// A law: what is bound of a LEFT JOIN's ON condition, where its checks pass, names no item to the
+/// right of that join's.
+pub fn bound_stays_left()
+    ensures { BoundStaysLeft }
 {}

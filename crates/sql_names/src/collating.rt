@@ -1,53 +1,26 @@
 //! Which conversions and which collation a comparison has.
 ghost use Rattle.std.specs.Prelude.{◌≡◌, option_map, ◌∷◌, []};
 ghost use Rattle.sql_value.specs.View.{plain_affinity, plain_collation};
-ghost use Rattle.sql_meaning.specs.Items.{table_column};
-ghost use Rattle.sql_meaning.specs.Schemas.{column_or};
-ghost use Rattle.schema_model.specs.PlainSchemas.{plain_schema, plain_column};
+ghost use Rattle.sql_meaning.specs.Items.{own_column};
+ghost use Rattle.schema_model.specs.PlainSchemas.{plain_schema};
+ghost use Rattle.sql_bound.specs.Columns.{site_of, table_column_of};
 ghost use Rattle.sql_bound.specs.Expressions.{expr_of, members_of};
 ghost use Rattle.sql_names.specs.Faults.{Answers};
 ghost use Rattle.sql_names.specs.Collating as meant;
 ghost use Rattle.sql_names.specs.Binding as binding;
-ghost use Rattle.std.specs.Prelude.{slice_get};
 
 use crate::{BindFault, Scope};
-use schema_model::Column;
-use sql_bound::{BExpr, BExprs};
+use sql_bound::{BExpr, BExprs, ColumnRef, TableColumn, own_column};
 use sql_value::{Affinity, Bytes, Collation, collation_named};
 use std::alloc::Global;
 
-/// The column of a number, of the table of an item.
-fn column_at<'s>(scope: &'s Scope, item: u32, column: u32) -> Option<&'s Column>
-    ensures { column_or (option_map (λ found. plain_column found.now) result)
-        ≡ table_column (plain_schema scope.now.schema) (slice_get scope.now.items item) column }
+/// What a column of an item owns.
+fn own_at(scope: &Scope, item: u32, column: Option<u32>) -> TableColumn
+    ensures { table_column_of result
+        ≡ own_column (plain_schema scope.now.schema) scope.now.items
+        (record { item = item; site = site_of column }) }
 {
-    if item < scope.count() {
-        scope.table(item).columns.as_slice().get(column as usize)
-    } else {
-        None
-    }
-}
-
-fn column_affinity(scope: &Scope, item: u32, column: u32) -> Affinity
-    ensures { plain_affinity result
-        ≡ (table_column (plain_schema scope.now.schema) (slice_get scope.now.items item)
-        column).affinity }
-{
-    match column_at(scope, item, column) {
-        Some(found) => found.affinity,
-        None => Affinity::Blob,
-    }
-}
-
-fn column_collation(scope: &Scope, item: u32, column: u32) -> Collation
-    ensures { plain_collation result
-        ≡ (table_column (plain_schema scope.now.schema) (slice_get scope.now.items item)
-        column).collation }
-{
-    match column_at(scope, item, column) {
-        Some(found) => found.coll,
-        None => Collation::Binary,
-    }
+    own_column(scope.schema(), scope.items(), ColumnRef { item, column })
 }
 
 /// The affinity of a column, also under COLLATE; any other expression has none
@@ -56,7 +29,7 @@ pub(crate) fn affinity(scope: &Scope, expr: &BExpr) -> Option<Affinity>
     ensures { option_map plain_affinity result ≡ binding.affinity scope.now (expr_of expr.now) }
 {
     match expr {
-        BExpr::Column { item, column } => Some(column_affinity(scope, *item, *column)),
+        BExpr::Column { item, column } => Some(own_at(scope, *item, Some(*column)).affinity),
         BExpr::Rowid { .. } => Some(Affinity::Integer),
         BExpr::Collate(inner, _) => affinity(scope, inner),
         BExpr::Lit(_) => None,
@@ -64,6 +37,7 @@ pub(crate) fn affinity(scope: &Scope, expr: &BExpr) -> Option<Affinity>
         BExpr::Plus(_) => None,
         BExpr::Cmp { .. } => None,
         BExpr::OneOf { .. } => None,
+        BExpr::Like(..) => None,
         BExpr::IsNull(..) => None,
         BExpr::Not(_) => None,
         BExpr::All(_) => None,
@@ -86,6 +60,7 @@ fn explicit(expr: &BExpr) -> Option<Collation>
         BExpr::Collate(_, coll) => Some(*coll),
         BExpr::Cmp { left, right, .. } => explicit(left).or(explicit(right)),
         BExpr::OneOf { left, entries, .. } => explicit(left).or(explicit_among(entries)),
+        BExpr::Like(_, left, pattern) => explicit(left).or(explicit(pattern)),
         BExpr::IsNull(_, inner) => explicit(inner),
         BExpr::Not(inner) => explicit(inner),
         BExpr::All(members) => explicit_among(members),
@@ -112,7 +87,7 @@ fn own_collation(scope: &Scope, expr: &BExpr) -> Option<Collation>
         ≡ meant.own_collation (plain_schema scope.now.schema) scope.now.items (expr_of expr.now) }
 {
     match expr {
-        BExpr::Column { item, column } => Some(column_collation(scope, *item, *column)),
+        BExpr::Column { item, column } => Some(own_at(scope, *item, Some(*column)).coll),
         BExpr::Rowid { .. } => Some(Collation::Binary),
         BExpr::Plus(inner) => own_collation(scope, inner),
         BExpr::Collate(inner, _) => own_collation(scope, inner),
@@ -120,6 +95,7 @@ fn own_collation(scope: &Scope, expr: &BExpr) -> Option<Collation>
         BExpr::Param(_) => None,
         BExpr::Cmp { .. } => None,
         BExpr::OneOf { .. } => None,
+        BExpr::Like(..) => None,
         BExpr::IsNull(..) => None,
         BExpr::Not(_) => None,
         BExpr::All(_) => None,

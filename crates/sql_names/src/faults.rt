@@ -14,6 +14,8 @@ pub enum BindFault {
     /// An earlier table of FROM stands under the same name.
     SameName(Bytes),
     NoSuchCollation(Bytes),
+    /// A name in the ON condition of a LEFT JOIN that denotes a table to its right.
+    RightName(Bytes),
     /// A number in ORDER BY that isn't that of a result.
     BadPosition,
     /// More than 64 tables in FROM.

@@ -16,7 +16,7 @@ use std::alloc::Global;
 /// What a name means among the tables of FROM.
 #[derive(Clone, Copy)]
 pub(crate) enum Meaning<'a> {
-    Means(BExpr<'a>),
+    Denotes(BExpr<'a>),
     /// Several tables have what it names.
     Ambiguous,
     Unknown,
@@ -75,9 +75,9 @@ fn constant<'a>(lower: &[u8]) -> Meaning<'a>
     ensures { plain_meaning result ≡ meant.constant lower.now }
 {
     if lower == b"true".as_slice() {
-        Meaning::Means(BExpr::Lit(Lit::Int(1)))
+        Meaning::Denotes(BExpr::Lit(Lit::Int(1)))
     } else if lower == b"false".as_slice() {
-        Meaning::Means(BExpr::Lit(Lit::Int(0)))
+        Meaning::Denotes(BExpr::Lit(Lit::Int(0)))
     } else {
         Meaning::Unknown
     }
@@ -90,7 +90,7 @@ fn without_column<'a>(scope: &Scope, lower: &[u8]) -> Meaning<'a>
     if !is_rowid_name(lower) {
         constant(lower)
     } else if scope.count() == 1 {
-        Meaning::Means(BExpr::Rowid { item: 0 })
+        Meaning::Denotes(BExpr::Rowid { item: 0 })
     } else {
         Meaning::Ambiguous
     }
@@ -110,7 +110,7 @@ fn bare_meaning<'a>(scope: &Scope, lower: &[u8]) -> Meaning<'a>
         }
     }
     match found {
-        Some(column) => Meaning::Means(column),
+        Some(column) => Meaning::Denotes(column),
         None => without_column(scope, lower),
     }
 }
@@ -132,7 +132,7 @@ fn meaning_of<'a>(
         return Ok(Meaning::Unknown);
     };
     match named_in(scope, item, lower.as_slice()) {
-        Some(column) => Ok(Meaning::Means(column)),
+        Some(column) => Ok(Meaning::Denotes(column)),
         None => Ok(Meaning::Unknown),
     }
 }
@@ -153,24 +153,58 @@ fn shown(alloc: Global, table: Option<&[u8]>, name: &[u8]) -> Result<Bytes, Memo
     }
 }
 
-/// The expression that a name means (<https://sqlite.org/lang_expr.html>): a column, behind its
+/// Whether what a name denotes is of an item to the right of the owner.
+fn is_right_of(owner: Option<u32>, denoted: &BExpr) -> bool
+    ensures { result ≡ meant.is_right_of owner (expr_of denoted.now) }
+{
+    let Some(owner) = owner else {
+        return false;
+    };
+    match denoted {
+        BExpr::Column { item, .. } => owner < *item,
+        BExpr::Rowid { item } => owner < *item,
+        BExpr::Lit(_) => false,
+        BExpr::Param(_) => false,
+        BExpr::Plus(_) => false,
+        BExpr::Collate(..) => false,
+        BExpr::Cmp { .. } => false,
+        BExpr::OneOf { .. } => false,
+        BExpr::Like(..) => false,
+        BExpr::IsNull(..) => false,
+        BExpr::Not(_) => false,
+        BExpr::All(_) => false,
+        BExpr::Any(_) => false,
+    }
+}
+
+/// The expression that a name denotes (<https://sqlite.org/lang_expr.html>): a column, behind its
 /// table's name or alone; where there is no such column, the rowid by its three names, and for a
-/// name alone TRUE and FALSE.
+/// name alone TRUE and FALSE. A name in the ON condition of a LEFT JOIN has the item of that as its
+/// owner.
 ///
 /// `AmbiguousColumn` where a name alone is that of columns of several tables, or of the rowid where
-/// there are several tables; `NoSuchColumn` where it means nothing; `Memory`.
+/// there are several tables; `NoSuchColumn` where it denotes nothing; `RightName` where it denotes
+/// an item to the right of its owner; `Memory`.
 pub fn bind_name<'a>(
     alloc: Global,
     scope: &Scope,
+    owner: Option<u32>,
     table: Option<&[u8]>,
     name: &[u8],
 ) -> Result<BExpr<'a>, BindFault>
     ensures { Answers expr_of result
-        (meant.name_check scope.now (option_map (λ bytes. bytes.now) table.entry) name.now ∷ [])
+        (meant.name_check scope.now owner (option_map (λ bytes. bytes.now) table.entry) name.now
+        ∷ [])
         (meant.name_expr scope.now (option_map (λ bytes. bytes.now) table.entry) name.now) }
 {
     match meaning_of(alloc, scope, table, name)? {
-        Meaning::Means(expr) => Ok(expr),
+        Meaning::Denotes(expr) => {
+            if is_right_of(owner, &expr) {
+                Err(BindFault::RightName(shown(alloc, table, name)?))
+            } else {
+                Ok(expr)
+            }
+        }
         Meaning::Ambiguous => Err(BindFault::AmbiguousColumn(shown(alloc, table, name)?)),
         Meaning::Unknown => Err(BindFault::NoSuchColumn(shown(alloc, table, name)?)),
     }

@@ -3,6 +3,7 @@ ghost use Rattle.std.specs.Prelude.{◌≡◌, ◌<◌, ◌≤◌, length, map, 
 ghost use Rattle.std.specs.Prelude.{IfOk, IfSome};
 ghost use Rattle.sql_meaning.specs.Letters.{folded_bytes};
 ghost use Rattle.schema_model.specs.Names.{has_name};
+ghost use Rattle.sql_bound.specs.Fits.{most_items};
 ghost use Rattle.sql_bound.specs.Statements.{item_of};
 ghost use Rattle.schema_model.specs.Schemas.{IsTable};
 ghost use Rattle.sql_names.specs.Scopes.{no_items, with_item, table_at};
@@ -50,7 +51,7 @@ impl<'a> Scope<'a> {
     /// Appends an item under a name that no item has. After `Memory` the scope is as it was.
     pub fn push(&mut self, alloc: Global, name: &[u8], item: BItem<'a>) -> Result<(), Memory>
         requires free { has_name (folded_bytes name.now) self.old.names ≡ false }
-        requires room { length self.old.items < 64 }
+        requires room { length self.old.items < most_items }
         requires table { item.table < length self.old.schema.tables }
         ensures ok { OnOk result
             (self.new ≡ with_item self.old (folded_bytes name.now) (item_of item.entry)) }
@@ -81,7 +82,7 @@ impl<'a> Scope<'a> {
     /// How many items there are. Takes no memory.
     pub fn count(&self) -> u32
         ensures count { result ≡ length self.now.items }
-        ensures few { result ≤ 64 }
+        ensures few { result ≤ most_items }
     {
         self.items.len() as u32
     }

@@ -1,6 +1,5 @@
-use Rattle.std.proofs.Common.{◌≡◌, ◌≤◌, ℕ, IfOk, length, map, flat_map, [], subst, sym, ap, ◌∙◌}
-use Rattle.std.proofs.lemmas.List.{length-map}
-use Rattle.sql_tree.specs.Statements.{statement_tree, source_tree}
+use Rattle.std.proofs.Common.{◌≡◌, IfOk, map, flat_map, [], subst, ap, ◌∙◌}
+use Rattle.sql_tree.specs.Statements.{statement_tree}
 use Rattle.sql_names.specs.Scopes.{Scope}
 use Rattle.sql_names.specs.Faults.{Answers}
 use Rattle.sql_bind.specs.Clauses.{sources_of}
@@ -11,22 +10,25 @@ use Rattle.sql_bind.specs.Parts.{aliases_of, whole, whole_in, whole_statement}
 use Rattle.sql_bind.proofs.Turns.{exits}
 use Rattle.sql_bind.proofs.Steps.{Fails, Passes}
 use Rattle.sql_bind.proofs.FromSteps.{fails_tables, fails_names, answers_later, known_names}
-use Rattle.sql_bind.proofs.FromSteps.{known_aliases}
+use Rattle.sql_bind.proofs.FromSteps.{known_aliases, has_room}
 use Rattle.sql_bind.proofs.binding.bind_checked.Goals as goal
 
 pub returns-in_err-list-clause-answer : goal.returns-in_err-list-clause-answer
 returns-in_err-list-clause-answer c =
     let schema = c.args.schema.now in
     let tree = statement_tree c.args.stmt.now in
-    let few = c.if-sources-gt-MOST_TABLES.false in
     let fault = c.in_err-list.field-0.0 in
-    let room = subst (λ (n : ℕ). n ≤ 64)
-    (sym (length-map c.sources_of-sources.result.now source_tree)
-    ∙ ap (λ ss. length ss) c.sources_of-sources.ensures) few in
+    let room = has_room c.sources_of-sources.result.now _ c.if-sources-gt-MOST_ITEMS.false
+    c.sources_of-sources.ensures in
     exits _ c.from_residual.result fault _ _ c.from_residual.ensures.1
     (fails_tables schema tree room fault
     (subst (Fails fault) (ap (flat_map (table_checks schema)) c.sources_of-sources.ensures)
     c.in_err-list.ensures.answer))
+
+pub bind_in-requires-clause-few : goal.bind_in-requires-clause-few
+bind_in-requires-clause-few c =
+    has_room c.sources_of-sources.result.now _ c.if-sources-gt-MOST_ITEMS.false
+    c.sources_of-sources.ensures
 
 pub scope_of-requires-clause-there : goal.scope_of-requires-clause-there
 scope_of-requires-clause-there c = rw c.as_slice.ensures.value c.in_ok-list.ensures.there
@@ -35,11 +37,9 @@ pub returns-in_err-scope-clause-answer : goal.returns-in_err-scope-clause-answer
 returns-in_err-scope-clause-answer c =
     let schema = c.args.schema.now in
     let tree = statement_tree c.args.stmt.now in
-    let few = c.if-sources-gt-MOST_TABLES.false in
     let fault = c.in_err-scope.field-0.0 in
-    let room = subst (λ (n : ℕ). n ≤ 64)
-    (sym (length-map c.sources_of-sources.result.now source_tree)
-    ∙ ap (λ ss. length ss) c.sources_of-sources.ensures) few in
+    let room = has_room c.sources_of-sources.result.now _ c.if-sources-gt-MOST_ITEMS.false
+    c.sources_of-sources.ensures in
     let passed = subst Passes (ap (flat_map (table_checks schema)) c.sources_of-sources.ensures)
     c.in_ok-list.ensures.answer.0 in
     let items = ap (map named_of) c.as_slice.ensures.value ∙ c.in_ok-list.ensures.answer.1
@@ -54,10 +54,8 @@ pub returns-clause-answer : goal.returns-clause-answer
 returns-clause-answer c =
     let schema = c.args.schema.now in
     let tree = statement_tree c.args.stmt.now in
-    let few = c.if-sources-gt-MOST_TABLES.false in
-    let room = subst (λ (n : ℕ). n ≤ 64)
-    (sym (length-map c.sources_of-sources.result.now source_tree)
-    ∙ ap (λ ss. length ss) c.sources_of-sources.ensures) few in
+    let room = has_room c.sources_of-sources.result.now _ c.if-sources-gt-MOST_ITEMS.false
+    c.sources_of-sources.ensures in
     let passed = subst Passes (ap (flat_map (table_checks schema)) c.sources_of-sources.ensures)
     c.in_ok-list.ensures.answer.0 in
     let items = ap (map named_of) c.as_slice.ensures.value ∙ c.in_ok-list.ensures.answer.1

@@ -1,5 +1,5 @@
 use Rattle.std.proofs.Common.{take}
-use Rattle.sql_bound.proofs.Turns.{plain_members}
+use Rattle.sql_bound.proofs.Members.{plain_members}
 use Rattle.sql_bind.specs.Needs.{some_names_column}
 use Rattle.sql_bind.specs.Marks.{Marks}
 use Rattle.sql_bind.proofs.needs.+mark.Given as goal

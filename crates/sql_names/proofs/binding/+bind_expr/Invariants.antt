@@ -7,8 +7,9 @@ use Rattle.sql_names.proofs.binding.+bind_expr.Given as goal
 
 abbrev pub invariant-bind_all-loop-member : goal.invariant-bind_all-loop-member
 invariant-bind_all-loop-member l = record {
-  checks : first_failing (all_checks l.scope (tree_members (drop l.member-index l.member-items)))
-      ≡ first_failing (all_checks l.scope (trees_of l.list));
+  checks : first_failing
+      (all_checks l.scope l.owner (tree_members (drop l.member-index l.member-items)))
+      ≡ first_failing (all_checks l.scope l.owner (trees_of l.list));
   meant : with_front (map expr_of l.members.items)
       (all_bound l.scope (tree_members (drop l.member-index l.member-items)))
       ≡ all_bound l.scope (trees_of l.list);

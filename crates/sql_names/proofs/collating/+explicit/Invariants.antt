@@ -1,6 +1,6 @@
 use Rattle.std.proofs.Common.{◌≡◌, drop}
 use Rattle.sql_bound.specs.Expressions.{members_of}
-use Rattle.sql_bound.proofs.Turns.{plain_members}
+use Rattle.sql_bound.proofs.Members.{plain_members}
 use Rattle.sql_names.specs.Collating.{explicit_among}
 use Rattle.sql_names.proofs.collating.+explicit.Given as goal
 
