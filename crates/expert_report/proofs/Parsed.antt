@@ -1,25 +1,19 @@
 -- What the parser answers of a statement, and what its advice is then.
-use Rattle.std.proofs.Common.{◌≡◌, ◌<◌, ◌≤◌, ◌⊎◌, ℕ, ◌+◌, List, Option, None, Some, Result, Ok, Err}
-use Rattle.std.proofs.Common.{refl, subst, inl, inr, arith, length}
-use Rattle.std.specs.Prelude.{Bool, true, false, cond, nat_lt}
-use Rattle.std.proofs.lemmas.Bool.{ltb-true}
+use Rattle.std.proofs.Common.{◌≡◌, ◌<◌, ◌⊎◌, ℕ, List, Option, None, Some, Result, Ok, Err, refl}
+use Rattle.std.proofs.Common.{inl, inr, arith, length, false}
 use Rattle.sql_tokens.specs.declared.token.Token.{Token}
 use Rattle.sql_tree.specs.Statements.{StatementTree, SourceTree}
-use Rattle.sql_lex.specs.declared.entry_names.Foreign.{Foreign}
-use Rattle.sql_lex.specs.Depth.{depth_of}
-use Rattle.sql_lex.specs.Patterns.{entry_numbered, foreign_of, table}
 use Rattle.sql_read.specs.Lexemes.{Lexeme}
 use Rattle.sql_read.specs.Statements.{whole_at}
 use Rattle.sql_parse.specs.declared.refusals.ParseFault.{ParseFault}
-use Rattle.sql_parse.specs.declared.refusals.ParseFault.TheVariants.{Lexical, NumberOutOfProfile}
-use Rattle.sql_parse.specs.declared.refusals.ParseFault.TheVariants.{TooDeep, Syntax, Memory}
-use Rattle.sql_parse.specs.declared.refusals.ParseFault.TheVariants.{Foreign as foreign_fault}
-use Rattle.sql_parse.specs.Refusals.{first_refusal, foreign_or, has_bad, outside_from}
-use Rattle.sql_parse.specs.Statements.{IsSpelled, select, update, delete, Sources, sources}
-use Rattle.sql_parse.specs.TokenLexemes.{lexemes_of}
+use Rattle.sql_parse.specs.declared.refusals.ParseFault.TheVariants.{Syntax, Memory}
+use Rattle.sql_parse.specs.Refusals.{first_refusal}
+use Rattle.sql_parse.specs.Statements.{IsSpelled, select, update, delete, Sources, sources, table}
+use Rattle.sql_lexemes.specs.TokenLexemes.{lexemes_of}
 use Rattle.schema_model.specs.Schemas.{Schema}
 use Rattle.sql_bind.specs.Clauses.{sources_of}
-use Rattle.expert_report.specs.Faults.{parse_text, IsNamed}
+use Rattle.sql_bind.specs.Sources.{begins_left}
+use Rattle.expert_report.specs.Faults.{parse_text}
 use Rattle.expert_report.specs.Advice.{Refused, run_advice, tree_advice, statement_advice}
 
 -- a statement that is spelled has a table
@@ -30,6 +24,16 @@ pub has_source : {ts : List Lexeme} {t : StatementTree} → IsSpelled ts t → 0
 has_source (select all items from filter keys cuts whole) = some_source from
 has_source (update one sets filter whole) = omega arith
 has_source (delete one filter whole) = omega arith
+
+-- LEFT JOIN doesn't stand before the first table
+not_left : {ts : List Lexeme} {ss : List SourceTree} → Sources ts ss → begins_left ss ≡ false
+not_left (sources (table t d alias) rest whole) = refl
+
+pub first_is_not_left : {ts : List Lexeme} {t : StatementTree} → IsSpelled ts t
+    → begins_left (sources_of t) ≡ false
+first_is_not_left (select all items from filter keys cuts whole) = not_left from
+first_is_not_left (update (table t d alias) sets filter whole) = refl
+first_is_not_left (delete (table t d alias) filter whole) = refl
 
 -- a statement that is read meets no refusal
 pub passed : {S : Type 0} (first : Option ParseFault) (s : S)
@@ -65,53 +69,3 @@ refused_advice schema text tokens None fault read other refused otherwise only =
     syntax None spelled (inl is) = rw is refl
     syntax (Some t) spelled (inl is) = absurd (other (spelled t refl))
     syntax tree spelled (inr is) = absurd (other is)
-
--- the fault of a statement that is refused before its grammar is asked has a name
-refused_foreign : (bad outside deep : Bool) (found : Option Foreign) (f : Foreign)
-    → cond bad (Some Lexical)
-    (foreign_or found
-    (cond outside (Some NumberOutOfProfile) (cond deep (Some TooDeep) None)))
-    ≡ Some (foreign_fault f)
-    → found ≡ Some f
-refused_foreign true outside deep found f e = cc
-refused_foreign false outside deep (Some g) f e = cc
-refused_foreign false true deep None f e = cc
-refused_foreign false false true None f e = cc
-refused_foreign false false false None f e = cc
-
-numbered : (n count : ℕ) (f : Foreign) → entry_numbered n count ≡ Some f
-    → (1 ≤ f.entry) × (f.entry ≤ count)
-numbered n count f e = below (nat_lt n count) refl e
-  where
-    below : (b : Bool) → nat_lt n count ≡ b → cond b (Some (record { entry = n + 1 })) None ≡ Some f
-        → (1 ≤ f.entry) × (f.entry ≤ count)
-    below true is e =
-        let entry : f.entry ≡ n + 1 = cc in
-        (omega (arith, entry), omega (arith, entry, ltb-true n count is))
-    below false is e = cc
-
-pub named : (text : List ℕ) (tokens : List Token) (fault : ParseFault)
-    → first_refusal text tokens ≡ Some fault → IsNamed fault
-unfolding first_refusal foreign_of table
-named text tokens (foreign_fault f) e =
-    numbered _ _ f (refused_foreign (has_bad tokens) (outside_from text false tokens)
-    (nat_lt 200 (depth_of text tokens)) (foreign_of text tokens) f e)
-named text tokens Lexical e = tt
-named text tokens NumberOutOfProfile e = tt
-named text tokens TooDeep e = tt
-named text tokens Syntax e = tt
-named text tokens Memory e = tt
-
-pub fault_named : {S : Type 0} (text : List ℕ) (tokens : List Token) (first : Option ParseFault)
-    (fault : ParseFault) → first_refusal text tokens ≡ first
-    → ((f : ParseFault) → first ≡ Some f → ◌≡◌ {A = Result S ParseFault} (Err fault) (Err f))
-    → (first ≡ None → (fault ≡ Syntax) ⊎ (fault ≡ Memory)) → IsNamed fault
-fault_named text tokens (Some f) fault is refused otherwise =
-    let wrong = refused f refl in
-    let same : f ≡ fault = cc in
-    subst IsNamed same (named text tokens f is)
-fault_named text tokens None fault is refused otherwise = late (otherwise refl)
-  where
-    late : (fault ≡ Syntax) ⊎ (fault ≡ Memory) → IsNamed fault
-    late (inl e) = rw e tt
-    late (inr e) = rw e tt

@@ -3,7 +3,7 @@ use Rattle.std.proofs.Common.{◌≡◌, ℕ, false, List, [], ◌∷◌, refl, 
 use Rattle.std.specs.List.{AllByRecursion}
 use Rattle.sql_tree.specs.Statements.{StatementTree, KeyTree, Select, Update, Delete}
 use Rattle.list_laws.proofs.Bools.{or_false_left, or_false_right}
-use Rattle.sql_bind.specs.Clauses.{keys_of}
+use Rattle.sql_bind.specs.Clauses.{order_keys_of}
 use Rattle.sql_tokens.specs.Tokens.{tokens_of}
 use Rattle.sql_tokens.specs.declared.token.Token.{Token}
 use Rattle.sql_lex.specs.Statements.{run_of, statements_of}
@@ -16,7 +16,7 @@ use Rattle.expert_report.specs.Reports.{outcome_of, report_on}
 use Rattle.expert_report.specs.declared.outcomes.Report.{Report}
 use Rattle.expert_report.specs.declared.outcomes.StatementOutcome.{StatementOutcome}
 
-pub unkeyed : (t : StatementTree) → is_not_built t ≡ false → keys_of t ≡ []
+pub unkeyed : (t : StatementTree) → is_not_built t ≡ false → order_keys_of t ≡ []
 unkeyed (Select s) e = none s.keys (or_false_left (has_keys s.keys) _ (or_false_right _ _ e))
   where
     none : (keys : List KeyTree) → has_keys keys ≡ false → keys ≡ []

@@ -11,7 +11,7 @@ use Rattle.sql_lex.specs.Statements.{run_of, statements_of}
 use Rattle.sql_tree.specs.Statements.{StatementTree, KeyTree}
 use Rattle.sql_tree.specs.Statements.{Select, Update, Delete}
 use Rattle.sql_read.specs.Statements.{whole_at}
-use Rattle.sql_parse.specs.TokenLexemes.{lexemes_of}
+use Rattle.sql_lexemes.specs.TokenLexemes.{lexemes_of}
 use Rattle.sql_parse.specs.Refusals.{first_refusal}
 use Rattle.sql_parse.specs.declared.refusals.ParseFault.{ParseFault}
 use Rattle.sql_parse.specs.declared.refusals.ParseFault.TheVariants.{Syntax}

@@ -1,6 +1,6 @@
 -- The texts of refusals.
-use Rattle.std.specs.Prelude.{◌≤◌, ℕ, List, [], ◌++◌, codes}
-use Rattle.sql_lex.specs.EntryNames.{name_of_entry}
+use Rattle.std.specs.Prelude.{ℕ, List, [], ◌++◌, codes}
+use Rattle.sql_lex.specs.Constructs.{foreign_name}
 use Rattle.sql_parse.specs.declared.refusals.ParseFault.{ParseFault}
 use Rattle.sql_parse.specs.declared.refusals.ParseFault.TheVariants as parse
 use Rattle.sql_names.specs.declared.faults.BindFault.{BindFault}
@@ -9,7 +9,7 @@ use Rattle.sql_names.specs.declared.faults.BindFault.TheVariants as bind
 -- why a statement has no tree; want of memory is never told in a report
 unfoldable pub parse_text : ParseFault → List ℕ
 parse_text parse.Lexical = codes "unrecognized token"
-parse_text (parse.Foreign f) = codes "not in this profile: " ++ name_of_entry f.entry
+parse_text (parse.Foreign f) = codes "not in this profile: " ++ foreign_name f
 parse_text parse.NumberOutOfProfile = codes "number outside this profile"
 parse_text parse.TooDeep = codes "expression too deep"
 parse_text parse.Syntax = codes "syntax error"
@@ -23,6 +23,7 @@ bind_text (bind.NoSuchColumn name) = codes "no such column: " ++ name
 bind_text (bind.AmbiguousColumn name) = codes "ambiguous column name: " ++ name
 bind_text (bind.SameName name) = codes "name used twice in FROM: " ++ name
 bind_text (bind.NoSuchCollation name) = codes "no such collation: " ++ name
+bind_text (bind.RightName name) = codes "ON names a table to its right: " ++ name
 bind_text bind.BadPosition = codes "ORDER BY position out of range"
 bind_text bind.TooManyTables = codes "more than 64 tables"
 bind_text bind.TooManyTerms = codes "more than 256 terms"
@@ -30,12 +31,3 @@ bind_text bind.Memory = []
 
 abbrev pub not_built_text : List ℕ
 not_built_text = codes "form not built yet"
-
--- the construct that isn't read has a name
-abbrev pub IsNamed : ParseFault → Type 0
-IsNamed (parse.Foreign f) = (1 ≤ f.entry) × (f.entry ≤ 37)
-IsNamed parse.Lexical = Unit {0}
-IsNamed parse.NumberOutOfProfile = Unit {0}
-IsNamed parse.TooDeep = Unit {0}
-IsNamed parse.Syntax = Unit {0}
-IsNamed parse.Memory = Unit {0}

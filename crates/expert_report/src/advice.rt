@@ -1,5 +1,6 @@
 //! From a script to what becomes of each of its statements.
-ghost use Rattle.std.specs.Prelude.{◌≡◌, ◌<◌, ◌^◌, [], length, map, None, Some, IfOk, OnOk};
+ghost use Rattle.std.specs.Prelude.{◌≡◌, ◌<◌, ◌^◌, [], length, map, None, Some, false};
+ghost use Rattle.std.specs.Prelude.{IfOk, OnOk};
 ghost use Rattle.std.specs.List.{AllByRecursion};
 ghost use Rattle.sql_meaning.specs.Asked.{Means};
 ghost use Rattle.sql_tree.specs.Statements.{statement_tree};
@@ -9,6 +10,7 @@ ghost use Rattle.sql_bound.specs.Fits.{Fits};
 ghost use Rattle.sql_bound.specs.Statements.{bound_of, needs_of};
 ghost use Rattle.sql_bind.specs.Clauses.{sources_of, aliases_statement};
 ghost use Rattle.sql_bind.specs.Binding.{bound_statement};
+ghost use Rattle.sql_bind.specs.Sources.{begins_left};
 ghost use Rattle.plan_form.specs.Scans.{table_scan};
 ghost use Rattle.plan_form.specs.Texts.{aliases_of};
 ghost use Rattle.expert_report.specs.Advice as meant;
@@ -23,7 +25,7 @@ use sql_bind::bind;
 use sql_bound::Bound;
 use sql_lex::{Span, Token, lex, run_tokens, statements};
 use sql_parse::{parse, spelled_where_read};
-use sql_tree::Stmt;
+use sql_tree::{Stmt, place};
 use sql_value::{Bytes, Memory};
 use std::alloc::Global;
 
@@ -63,15 +65,6 @@ fn planned<'a>(
     Ok(StatementOutcome::Planned(plan_text(alloc, schema, &plan)?))
 }
 
-fn place_bound<'a>(arena: &'a Bump, bound: Bound<'a>) -> Result<&'a Bound<'a>, Memory>
-    ensures { IfOk result (λ place. place.now ≡ bound.entry) }
-{
-    match arena.try_alloc(bound) {
-        Ok(place) => Ok(place),
-        Err(_) => Err(Memory),
-    }
-}
-
 /// The outcome of a statement whose names are bound.
 fn bound_outcome<'a>(
     alloc: Global,
@@ -92,7 +85,7 @@ fn bound_outcome<'a>(
     if is_not_built(statement) {
         return Ok(StatementOutcome::Refused(Bytes::copy(alloc, b"form not built yet")?));
     }
-    planned(alloc, arena, schema, place_bound(arena, bound)?)
+    planned(alloc, arena, schema, place(arena, bound)?)
 }
 
 /// The outcome of a statement that the grammar spells.
@@ -103,6 +96,7 @@ fn tree_outcome<'a>(
     statement: &Stmt<'a>,
 ) -> Result<StatementOutcome, Memory>
     requires source { 0 < length (sources_of (statement_tree statement.now)) }
+    requires first { begins_left (sources_of (statement_tree statement.now)) ≡ false }
     ensures outcome { IfOk result (λ outcome. outcome ≡ outcome_of schema.now
         (meant.tree_advice schema.now (Some (statement_tree statement.now)))) }
     ensures means { OnOk result (meant.AdviceMeans (plain_schema schema.now)

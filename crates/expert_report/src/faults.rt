@@ -20,17 +20,16 @@ fn with_name(alloc: Global, front: &[u8], name: &[u8]) -> Result<Bytes, Memory>
 /// Why a statement has no tree; `Memory` where memory was wanting for the tree or the text.
 #[tactic(auto, unfolding(crate::specs::Faults::parse_text))]
 pub fn parse_text(alloc: Global, fault: ParseFault) -> Result<Bytes, Memory>
-    requires { meant.IsNamed fault }
     ensures text { IfOk result (λ text. text ≡ meant.parse_text fault) }
     ensures memory { OnOk result (fault ≢ ParseFault.Memory) }
 {
     match fault {
         ParseFault::Lexical => Bytes::copy(alloc, b"unrecognized token"),
-        ParseFault::Foreign(entry) => {
+        ParseFault::Foreign(construct) => {
             with_name(
                 alloc,
                 b"not in this profile: ",
-                foreign_name(entry).as_bytes(),
+                foreign_name(construct).as_bytes(),
             )
         }
         ParseFault::NumberOutOfProfile => Bytes::copy(alloc, b"number outside this profile"),
@@ -58,6 +57,9 @@ pub fn bind_text(alloc: Global, fault: &BindFault) -> Result<Bytes, Memory>
         }
         BindFault::NoSuchCollation(name) => {
             with_name(alloc, b"no such collation: ", name.as_slice())
+        }
+        BindFault::RightName(name) => {
+            with_name(alloc, b"ON names a table to its right: ", name.as_slice())
         }
         BindFault::BadPosition => Bytes::copy(alloc, b"ORDER BY position out of range"),
         BindFault::TooManyTables => Bytes::copy(alloc, b"more than 64 tables"),

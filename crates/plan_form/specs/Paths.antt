@@ -1,8 +1,7 @@
 -- What a path is seen as: plain data, with values in place of references.
 use Rattle.std.specs.Prelude.{option_map, List, [], ◌∷◌, map}
-use Rattle.sql_bound.specs.Statements.{key_of}
+use Rattle.sql_bound.specs.Statements.{key_expr_of, key_exprs_of}
 use Rattle.sql_meaning.specs.Paths as plain
-use Rattle.plan_form.specs.declared.path.Keys.{Keys}
 use Rattle.plan_form.specs.declared.path.EqPart.{EqPart}
 use Rattle.plan_form.specs.declared.path.EqPart.TheVariants as part
 use Rattle.plan_form.specs.declared.path.EqParts.{EqParts}
@@ -12,19 +11,16 @@ use Rattle.plan_form.specs.declared.path.Path.TheOpen as node
 use Rattle.plan_form.specs.declared.path.Path.TheOpen.{Path-F, Paths-F}
 use Rattle.plan_form.specs.declared.path.Path.TheFolds.{fold-Path}
 
-abbrev pub keys_of : Keys → List plain.KeyExpr
-keys_of keys = map key_of keys.keys.now
-
 abbrev pub part_of : EqPart → plain.EqPart
-part_of (part.One key) = plain.OneKey (key_of key)
-part_of (part.Many keys) = plain.ManyKeys (keys_of keys)
+part_of (part.One key) = plain.OneKey (key_expr_of key)
+part_of (part.Many keys) = plain.ManyKeys (key_exprs_of keys)
 part_of part.Null = plain.NullKey
 
 abbrev pub parts_of : EqParts → List plain.EqPart
 parts_of parts = map (λ part. part_of part.now) parts.parts.now
 
 abbrev pub edge_of : Edge → plain.Edge
-edge_of edge = record { key = key_of edge.key; inclusive = edge.inclusive }
+edge_of edge = record { key = key_expr_of edge.key; inclusive = edge.inclusive }
 
 abbrev pub paths : List plain.Path → plain.Paths
 paths [] = plain.Nowhere

@@ -9,7 +9,7 @@ mod plan;
 mod scans;
 mod text;
 
-pub use path::{Edge, EqPart, EqParts, Keys, Path, Paths};
+pub use path::{Edge, EqPart, EqParts, Path, Paths};
 pub use plan::{Loop, Plan};
 pub use scans::{scan_plan, table_scans_mean};
 pub use text::plan_text;

@@ -2,13 +2,7 @@
 //!
 //! A path borrows its keys from the statement, so it is copied as a few words. A list stands in a
 //! struct of its own where an enum holds it, because an enum may not hold a slice of references.
-use sql_bound::KeyExpr;
-
-/// Keys that a column is compared with, one after another.
-#[derive(Clone, Copy)]
-pub struct Keys<'p> {
-    pub keys: &'p [KeyExpr<'p>],
-}
+use sql_bound::{KeyExpr, Keys};
 
 /// What an index column, or the rowid, must equal.
 #[derive(Clone, Copy)]

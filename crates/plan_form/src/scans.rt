@@ -7,25 +7,8 @@ ghost use Rattle.plan_form.specs.Scans.{table_scan, TableScansMean};
 use crate::{Loop, Path, Plan};
 use bumpalo::Bump;
 use sql_bound::Bound;
+use sql_tree::{place, place_slice};
 use sql_value::Memory;
-
-fn place_path<'p>(arena: &'p Bump, path: Path<'p>) -> Result<&'p Path<'p>, Memory>
-    ensures { IfOk result (λ place. place.now ≡ path.entry) }
-{
-    match arena.try_alloc(path) {
-        Ok(place) => Ok(place),
-        Err(_) => Err(Memory),
-    }
-}
-
-fn place_loops<'p>(arena: &'p Bump, loops: &[Loop<'p>]) -> Result<&'p [Loop<'p>], Memory>
-    ensures { IfOk result (λ place. place.now ≡ loops.now) }
-{
-    match arena.try_alloc_slice_copy(loops) {
-        Ok(place) => Ok(place),
-        Err(_) => Err(Memory),
-    }
-}
 
 /// The plan that scans the first table of a statement, testing each conjunct on each row.
 pub fn scan_plan<'p>(arena: &'p Bump, bound: &'p Bound<'p>) -> Result<Plan<'p>, Memory>
@@ -34,13 +17,13 @@ pub fn scan_plan<'p>(arena: &'p Bump, bound: &'p Bound<'p>) -> Result<Plan<'p>, 
 {
     let scan = Loop {
         item: 0,
-        path: place_path(arena, Path::TableScan)?,
+        path: place(arena, Path::TableScan)?,
         reverse: false,
         consumed: &[],
     };
     Ok(Plan {
         bound,
-        loops: place_loops(arena, &[scan])?,
+        loops: place_slice(arena, &[scan])?,
         sort: false,
     })
 }

@@ -13,8 +13,8 @@ pub planned-requires-clause-keys : goal.planned-requires-clause-keys
 planned-requires-clause-keys c =
     let tree = statement_tree c.args.statement.now in
     let scope = scope_of c.args.schema.now (sources_of tree) in
-    let bound : bound_of c.in_ok-place_bound.field-0.now ≡ bound_statement c.args.schema.now tree =
-    rw c.in_ok-place_bound.ensures c.requires.bound in
+    let bound : bound_of c.in_ok-place.field-0.now ≡ bound_statement c.args.schema.now tree =
+    rw c.in_ok-place.ensures c.requires.bound in
     ap (λ (b : Bound). b.keys) bound
     ∙ ap (map (sort_key scope (results_in scope tree)))
     (unkeyed tree (rw (← c.is_not_built.ensures) c.if-is_not_built.false))

@@ -1,14 +1,12 @@
 use Rattle.std.proofs.Common.{refl}
-use Rattle.expert_report.proofs.Parsed.{has_source, fault_named, refused_advice}
+use Rattle.expert_report.proofs.Parsed.{has_source, first_is_not_left, refused_advice}
 use Rattle.expert_report.proofs.advice.statement_outcome.Goals as goal
 
 pub tree_outcome-requires : goal.tree_outcome-requires
-tree_outcome-requires c = record { source = has_source c.in-Ok.ensures.found }
-
-pub parse_text-requires : goal.parse_text-requires
-parse_text-requires c =
-    fault_named c.args.text.now c.args.tokens.now _ _ refl c.in-Err.ensures.refused
-    c.in-Err.ensures.otherwise
+tree_outcome-requires c = record {
+  source = has_source c.in-Ok.ensures.found;
+  first = first_is_not_left c.in-Ok.ensures.found;
+}
 
 pub returns-in_ok-parse_text-in-Err-clause-outcome :
     goal.returns-in_ok-parse_text-in-Err-clause-outcome
