@@ -7,7 +7,7 @@ use Rattle.std.specs.Io.KnownBytes.{Appends}
 use Rattle.std.proofs.KnownBytes.{Appends-trans}
 use Rattle.expert_io.specs.Faults.{HasCause}
 use Rattle.expert_io.specs.Written.{AppendsProperPrefix}
-use Rattle.expert_main.specs.Refusals.{WritesLine}
+use Rattle.expert_main.specs.Promises.{WritesLine, sent}
 
 -- a proper prefix of the front is one of the whole
 pub prefix_first : (a b : Option (List ℕ)) (front rest : List ℕ) → AppendsProperPrefix a b front
@@ -30,6 +30,6 @@ prefix_then a b c front rest first h = (
 pub writes_line : {T E : Type 0} (r : Result T E) (old new : Option (List ℕ)) (before now : ℕ)
     (line : List ℕ) → OnOk r (Appends old new line)
     → OnErr r (AppendsProperPrefix old new line) → HasCause before now r
-    → WritesLine old new before now line
+    → WritesLine (sent old new before now) line
 writes_line (Ok x) old new before now line ok err cause = inl ok
 writes_line (Err e) old new before now line ok err cause = inr (err, cause.failed)

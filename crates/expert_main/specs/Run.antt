@@ -6,11 +6,12 @@ use Rattle.std.specs.declared.option.Option.{Option}
 use Rattle.std.specs.List.{starts_with}
 use Rattle.std.specs.Str.{bytes_eq}
 use Rattle.schema_model.specs.Schemas.{Schema}
-use Rattle.schema_read.specs.Dumps.{dump_of, table_total}
+use Rattle.schema_read.specs.Dumps.{dump_of, table_limit, table_total}
 use Rattle.expert_io.specs.Told.{File, file_of}
 use Rattle.expert_report.specs.Advice.{Advice, EachMeans, script_advice}
 use Rattle.expert_report.specs.Reports.{report_on, refuses_some, text_of}
 use Rattle.expert_report.specs.declared.outcomes.Report.{Report}
+use Rattle.expert_main.specs.Statuses as statuses
 use Rattle.expert_main.specs.Lines.{usage_line, cannot_read_line, database_too_large_line}
 use Rattle.expert_main.specs.Lines.{database_file_line, script_too_large_line, too_many_tables_line}
 
@@ -23,10 +24,13 @@ pub record Ran : Type 0 where
 abbrev pub refused : ℕ → List ℕ → Ran
 refused status line = record { status = status; out = []; err = line }
 
--- 3 where some statement is refused
+abbrev pub report_status : Report → ℕ
+report_status report =
+    if refuses_some report then statuses.some_refused else statuses.all_planned
+
 abbrev pub answered : Report → Ran
 answered report =
-    record { status = if refuses_some report then 3 else 0; out = text_of report; err = [] }
+    record { status = report_status report; out = text_of report; err = [] }
 
 -- what the words name: a script, and the file of a database
 pub record Command : Type 0 where
@@ -40,12 +44,28 @@ command_of (option ∷ script ∷ database ∷ []) =
     then Some (record { script = script; database = database }) else None
 command_of words = None
 
+abbrev pub database_in : Option Command → List ℕ
+database_in None = []
+database_in (Some command) = command.database
+
+-- the name of the database that the words name
+abbrev pub database_of : List (List ℕ) → List ℕ
+database_of words = database_in (command_of words)
+
 -- the bytes that a database file of SQLite begins with, in place of a dump's text
 abbrev pub file_header : List ℕ
 file_header = codes "SQLite format 3" ++ 0 ∷ []
 
 abbrev pub is_database_file : List ℕ → Bool
 is_database_file database = starts_with nat_eq database file_header
+
+-- how many bytes a database may have
+abbrev pub database_limit : ℕ
+database_limit = 67108864
+
+-- how many bytes a script may have
+abbrev pub script_limit : ℕ
+script_limit = 4194304
 
 -- the schema of a dump
 unfoldable pub schema_of : List ℕ → Schema
@@ -57,23 +77,25 @@ report_of schema script = report_on schema (script_advice schema script)
 
 abbrev pub run_schema : List ℕ → Schema → Ran
 run_schema script schema =
-    if nat_lt 1000 (table_total schema) then refused 2 too_many_tables_line
+    if nat_lt table_limit (table_total schema)
+    then refused statuses.input_refused too_many_tables_line
     else answered (report_of schema script)
 
--- a database has at most 67,108,864 bytes, and a script 4,194,304
 abbrev pub run_texts : List ℕ → List ℕ → Ran
 run_texts script database =
-    if nat_lt 67108864 (length database) then refused 2 database_too_large_line
-    else if is_database_file database then refused 2 database_file_line
-    else if nat_lt 4194304 (length script) then refused 2 script_too_large_line
+    if nat_lt database_limit (length database)
+    then refused statuses.input_refused database_too_large_line
+    else if is_database_file database then refused statuses.input_refused database_file_line
+    else if nat_lt script_limit (length script)
+    then refused statuses.input_refused script_too_large_line
     else run_schema script (schema_of database)
 
 abbrev pub run_database : Command → Option (List ℕ) → Ran
-run_database command None = refused 4 (cannot_read_line command.database)
+run_database command None = refused statuses.cannot_read (cannot_read_line command.database)
 run_database command (Some database) = run_texts command.script database
 
 abbrev pub run_command : List File → Option Command → Ran
-run_command files None = refused 1 usage_line
+run_command files None = refused statuses.usage usage_line
 run_command files (Some command) = run_database command (file_of files command.database)
 
 -- what the program does with its words, over these files
@@ -105,9 +127,9 @@ advised words files = advised_by files (command_of words)
 
 -- what was written is the report on the script's statements, and each plan in it means its
 -- statement: on every database of the schema, and for all parameters
-pub record Means (advice : Advised) (out : List ℕ) : Type 0 where
+pub record IsSoundReport (advice : Advised) (out : List ℕ) : Type 0 where
   pub printed : out ≡ text_of (report_on advice.schema advice.statements)
   pub means : EachMeans advice.schema advice.statements
 
 abbrev pub ReportMeans : List (List ℕ) → List File → List ℕ → Type 0
-ReportMeans words files out = IsSomeAnd (advised words files) (λ advice. Means advice out)
+ReportMeans words files out = IsSomeAnd (advised words files) (λ advice. IsSoundReport advice out)

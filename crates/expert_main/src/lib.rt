@@ -3,7 +3,9 @@
 
 mod answer;
 mod refusal;
+mod status;
 mod top;
 mod words;
 
+pub use status::OUT_OF_MEMORY;
 pub use top::expert;

@@ -3,11 +3,15 @@ ghost use Rattle.std.specs.Prelude.{◌≡◌, ◌++◌, [], ◌∷◌, OnOk, On
 ghost use Rattle.std.specs.Io.KnownBytes.{Appends};
 ghost use Rattle.expert_io.specs.Faults.{HasCause};
 ghost use Rattle.expert_io.specs.Written.{AppendsProperPrefix};
-ghost use Rattle.expert_main.specs.Refusals.{status_of, line_of, WritesLine};
+ghost use Rattle.expert_main.specs.Promises.{sent, WritesLine};
+ghost use Rattle.expert_main.specs.Refusals.{status_of, line_of};
 
+use crate::status::{CANNOT_READ, CANNOT_WRITE, INPUT_REFUSED, OUT_OF_MEMORY, USAGE};
 use expert_io::{Failed, Sink, write_all};
+use schema_read::ReadDumpFault;
+use sql_value::Memory;
 
-const USAGE: &[u8] =
+const USAGE_TEXT: &[u8] =
     b"usage: sqlite3_expert [-sql SQL] [-file FILE] [-sample PERCENT] [-verbose LEVEL] DATABASE";
 
 /// Why there is no report.
@@ -31,6 +35,31 @@ pub enum Refusal<'a> {
     Memory,
 }
 
+impl<'a> From<Memory> for Refusal<'a> {
+    ghost use Rattle.std.specs.Prelude.{◌≡◌};
+    ghost use Rattle.expert_main.specs.declared.refusal.Refusal.TheVariants as refusal;
+
+    ghost from_gives = { λ _ why. why ≡ refusal.Memory };
+
+    fn from(_: Memory) -> Refusal<'a> {
+        Refusal::Memory
+    }
+}
+
+impl<'a> From<ReadDumpFault> for Refusal<'a> {
+    ghost use Rattle.std.specs.Prelude.{◌≡◌};
+    ghost use Rattle.expert_main.specs.Refusals.{of_dump};
+
+    ghost from_gives = { λ fault why. why ≡ of_dump fault };
+
+    fn from(fault: ReadDumpFault) -> Refusal<'a> {
+        match fault {
+            ReadDumpFault::TooManyTables => Refusal::TooManyTables,
+            ReadDumpFault::Memory => Refusal::Memory,
+        }
+    }
+}
+
 // Writes a line in three pieces, so that no memory is wanted for it.
 fn write_line<E: Sink>(err: &mut E, front: &[u8], name: &[u8]) -> Result<(), Failed>
     ensures ok { OnOk result (Appends (E.written err.old) (E.written err.new)
@@ -44,49 +73,45 @@ fn write_line<E: Sink>(err: &mut E, front: &[u8], name: &[u8]) -> Result<(), Fai
     write_all(err, b"\n")
 }
 
-// Writes a line, as far as the sink takes it.
-fn say<E: Sink>(err: &mut E, front: &[u8], name: &[u8])
-    ensures { WritesLine (E.written err.old) (E.written err.new) (E.faults err.old)
-        (E.faults err.new)
-        (front.now ++ name.now ++ 10 ∷ []) }
-{
-    let _ = write_line(err, front, name);
-}
-
 impl<'a> Refusal<'a> {
     /// The exit status.
     pub fn status(&self) -> u8
         ensures { result ≡ status_of self.now }
     {
         match self {
-            Refusal::Usage => 1,
+            Refusal::Usage => USAGE,
             Refusal::DatabaseTooLarge
             | Refusal::DatabaseFile
             | Refusal::ScriptTooLarge
-            | Refusal::TooManyTables => 2,
-            Refusal::CannotRead(_) => 4,
-            Refusal::CannotWrite => 5,
-            Refusal::Memory => 6,
+            | Refusal::TooManyTables => INPUT_REFUSED,
+            Refusal::CannotRead(_) => CANNOT_READ,
+            Refusal::CannotWrite => CANNOT_WRITE,
+            Refusal::Memory => OUT_OF_MEMORY,
+        }
+    }
+
+    // The line but for its line feed: a text, and the name that stands behind it.
+    fn text(&self) -> (&[u8], &[u8])
+        ensures { line_of self.now ≡ result.0.now ++ result.1.now ++ 10 ∷ [] }
+    {
+        match self {
+            Refusal::Usage => (USAGE_TEXT, &[]),
+            Refusal::DatabaseTooLarge => (b"sqlite3_expert: database too large", &[]),
+            Refusal::DatabaseFile => (b"sqlite3_expert: database file format not read", &[]),
+            Refusal::ScriptTooLarge => (b"sqlite3_expert: script too large", &[]),
+            Refusal::TooManyTables => (b"sqlite3_expert: too many tables", &[]),
+            Refusal::CannotRead(name) => (b"sqlite3_expert: cannot read ", name),
+            Refusal::CannotWrite => (b"sqlite3_expert: cannot write", &[]),
+            Refusal::Memory => (b"sqlite3_expert: out of memory", &[]),
         }
     }
 
     /// Says so on standard error, as far as the sink takes it.
     pub fn complain<E: Sink>(&self, err: &mut E)
-        ensures { WritesLine (E.written err.old) (E.written err.new) (E.faults err.old)
-            (E.faults err.new)
-            (line_of self.now) }
+        ensures { WritesLine (sent (E.written err.old) (E.written err.new) (E.faults err.old)
+            (E.faults err.new)) (line_of self.now) }
     {
-        match self {
-            Refusal::Usage => say(err, USAGE, &[]),
-            Refusal::DatabaseTooLarge => say(err, b"sqlite3_expert: database too large", &[]),
-            Refusal::DatabaseFile => {
-                say(err, b"sqlite3_expert: database file format not read", &[])
-            }
-            Refusal::ScriptTooLarge => say(err, b"sqlite3_expert: script too large", &[]),
-            Refusal::TooManyTables => say(err, b"sqlite3_expert: too many tables", &[]),
-            Refusal::CannotRead(name) => say(err, b"sqlite3_expert: cannot read ", name),
-            Refusal::CannotWrite => say(err, b"sqlite3_expert: cannot write", &[]),
-            Refusal::Memory => say(err, b"sqlite3_expert: out of memory", &[]),
-        }
+        let (front, name) = self.text();
+        let _ = write_line(err, front, name);
     }
 }

@@ -1,14 +1,11 @@
 //! The top call.
-ghost use Rattle.std.specs.Prelude.{◌≡◌, ◌≢◌, ◌↔◌, ◌<◌, ◌≤◌, ◌⊎◌, [], ◌∷◌, List, ℕ, None, OnOk};
-ghost use Rattle.std.specs.Prelude.{IfOk, IfErr, IfSome, IsSome, true, false};
-ghost use Rattle.std.specs.Io.KnownBytes.{Appends};
-ghost use Rattle.expert_io.specs.Faults.{Rose, Stood};
-ghost use Rattle.expert_io.specs.Told.{Lacks};
-ghost use Rattle.expert_io.specs.Written.{AppendsProperPrefix};
-ghost use Rattle.expert_main.specs.Answers.{gives};
-ghost use Rattle.expert_main.specs.Run.{run, refused, command_of, ReportMeans};
-ghost use Rattle.expert_main.specs.Refusals.{status_of, line_of, WritesLine, Gives};
-ghost use Rattle.expert_main.specs.Causes.{database_of, is_report, Blames, IsLineAfter};
+ghost use Rattle.std.specs.Prelude.{◌≡◌, ◌≢◌, ◌↔◌, ◌≤◌, None, IfOk, IfErr, true, false};
+ghost use Rattle.expert_main.specs.Answers.{Answers, status_in};
+ghost use Rattle.expert_main.specs.Promises.{sent, RunsAsTold, Reports, ReadsAsTold};
+ghost use Rattle.expert_main.specs.Promises.{WritesAsTold, SaysWhy, WritesLine};
+ghost use Rattle.expert_main.specs.Refusals.{status_of, line_of, Declines};
+ghost use Rattle.expert_main.specs.Run.{command_of};
+ghost use Rattle.expert_main.specs.Statuses.{is_report, usage, cannot_write, out_of_memory};
 
 use crate::answer::{Answer, answer_texts};
 use crate::refusal::Refusal;
@@ -25,38 +22,12 @@ fn prepare<'a, F: Shelf>(
     words: &'a Words,
     shelf: &mut F,
 ) -> Result<Answer, Refusal<'a>>
-    ensures answered { IfOk result (λ answer. IfSome (F.files shelf.old) (λ files.
-        run words.now files ≡ gives answer)) }
-    ensures report { IfOk result (λ answer. is_report answer.status ≡ true) }
-    ensures refused { IfErr result (λ refusal. status_of refusal ≡ 2 → IfSome (F.files shelf.old)
-        (λ files. run words.now files ≡ refused 2 (line_of refusal))) }
-    ensures known { IfErr result (λ refusal. status_of refusal ≢ 5) }
-    ensures told { IfErr result (λ refusal. Stood (F.faults shelf.old) (F.faults shelf.new)
-        → status_of refusal ≢ 6 →
-        IfSome (F.files shelf.old)
-        (λ files. run words.now files ≡ refused (status_of refusal) (line_of refusal))) }
-    ensures read { IfOk result (λ answer. (database : List ℕ)
-        × (run words.now ((database_of words.now, database) ∷ []) ≡ gives answer)
-        × ReportMeans words.now ((database_of words.now, database) ∷ []) answer.report) }
-
-    ensures command { OnOk result (IsSome (command_of words.now)) }
-    ensures usage { IfErr result
-        (λ refusal. (status_of refusal ≡ 1) ↔ (command_of words.now ≡ None)) }
-
-    ensures means { IfOk result (λ answer. IfSome (F.files shelf.old)
-        (λ files. ReportMeans words.now files answer.report)) }
-
-    ensures kept { OnOk result (F.faults shelf.new ≡ F.faults shelf.old) }
-    ensures read_only { IfErr result (λ refusal. status_of refusal ≡ 4 →
-        Lacks (F.files shelf.old) (database_of words.now)
-        ⊎ Rose (F.faults shelf.old) (F.faults shelf.new)) }
-    ensures read_always { IfErr result (λ refusal. F.faults shelf.old < F.faults shelf.new
-        → status_of refusal ≡ 4) }
-    ensures read_lacks { IfErr result (λ refusal. status_of refusal ≢ 1 →
-        Lacks (F.files shelf.old) (database_of words.now) → status_of refusal ≡ 4) }
-    ensures found { OnOk result (¬ Lacks (F.files shelf.old) (database_of words.now)) }
-
-    ensures line { IfErr result (Blames words.now) }
+    ensures ok { IfOk result (Answers words.now (F.files shelf.old)) }
+    ensures err { IfErr result (Declines words.now (F.files shelf.old) (F.faults shelf.old)
+        (F.faults shelf.new)) }
+    ensures command { (status_in result ≡ usage) ↔ (command_of words.now ≡ None) }
+    ensures reads { ReadsAsTold words.now (F.files shelf.old) (F.faults shelf.old)
+        (F.faults shelf.new) (status_in result) }
 {
     let command = match read_words(words) {
         Some(command) => command,
@@ -68,72 +39,17 @@ fn prepare<'a, F: Shelf>(
         Err(ReadFault::TooLarge) => return Err(Refusal::DatabaseTooLarge),
         Err(ReadFault::Memory) => return Err(Refusal::Memory),
     };
-    match answer_texts(alloc, command.script, database.as_slice()) {
-        Ok(answer) => Ok(answer),
-        Err(why) => Err(why),
-    }
+    answer_texts(alloc, command.script, database.as_slice())
 }
 
-// Writes the whole report and answers the status, or says why it did not.
-fn attempt<'a, F: Shelf, O: Sink>(
-    alloc: Global,
-    words: &'a Words,
-    shelf: &mut F,
-    out: &mut O,
-) -> Result<u8, Refusal<'a>>
-    ensures answered { IfOk result (λ status. IfSome (F.files shelf.old)
-        (λ files. ((run words.now files).status ≡ status)
-        × Appends (O.written out.old) (O.written out.new) (run words.now files).out)) }
-    ensures report { IfOk result (λ status. is_report status ≡ true) }
-    ensures told { IfErr result (λ refusal. Stood (F.faults shelf.old) (F.faults shelf.new)
-        → Stood (O.faults out.old) (O.faults out.new) → status_of refusal ≢ 6 →
-        IfSome (F.files shelf.old)
-        (λ files. run words.now files ≡ refused (status_of refusal) (line_of refusal))) }
-    ensures means { OnOk result (IfSome (F.files shelf.old) (λ files.
-        ReportMeans words.now files (run words.now files).out)) }
-    ensures whole { OnOk result (IfSome (F.files shelf.old)
-        (λ files. ((run words.now files).err ≡ []))) }
-    ensures refused { IfErr result (λ refusal. status_of refusal ≡ 2 → IfSome (F.files shelf.old)
-        (λ files. run words.now files ≡ refused 2 (line_of refusal))) }
-    ensures read { IfOk result (λ status. (database : List ℕ)
-        × ((run words.now ((database_of words.now, database) ∷ [])).status ≡ status)
-        × Appends (O.written out.old) (O.written out.new)
-        (run words.now ((database_of words.now, database) ∷ [])).out
-        × ReportMeans words.now ((database_of words.now, database) ∷ [])
-        (run words.now ((database_of words.now, database) ∷ [])).out) }
-
-    ensures command { OnOk result (IsSome (command_of words.now)) }
-    ensures usage { IfErr result
-        (λ refusal. (status_of refusal ≡ 1) ↔ (command_of words.now ≡ None)) }
-
-    ensures kept { OnOk result (F.faults shelf.new ≡ F.faults shelf.old) }
-    ensures read_only { IfErr result (λ refusal. status_of refusal ≡ 4 →
-        Lacks (F.files shelf.old) (database_of words.now)
-        ⊎ Rose (F.faults shelf.old) (F.faults shelf.new)) }
-    ensures read_always { IfErr result (λ refusal. F.faults shelf.old < F.faults shelf.new
-        → status_of refusal ≡ 4) }
-    ensures read_lacks { IfErr result (λ refusal. status_of refusal ≢ 1 →
-        Lacks (F.files shelf.old) (database_of words.now) → status_of refusal ≡ 4) }
-    ensures found { OnOk result (¬ Lacks (F.files shelf.old) (database_of words.now)) }
-
-    ensures written { OnOk result (O.faults out.new ≡ O.faults out.old) }
-    ensures write_only { IfErr result (λ refusal. status_of refusal ≡ 5
-        → Rose (O.faults out.old) (O.faults out.new)) }
-    ensures write_prefix { IfErr result (λ refusal. status_of refusal ≡ 5 →
-        IfSome (F.files shelf.old) (λ files.
-        (is_report (run words.now files).status ≡ true)
-        × AppendsProperPrefix (O.written out.old) (O.written out.new) (run words.now files).out)) }
-    ensures out_unchanged { IfErr result (λ refusal. status_of refusal ≢ 5 → out.new ≡ out.old) }
-
-    ensures line { IfErr result (Blames words.now) }
+// Says why there is no report, and answers the status of that.
+fn give_up<E: Sink>(why: &Refusal, err: &mut E) -> u8
+    ensures status { result ≡ status_of why.now }
+    ensures line { WritesLine (sent (E.written err.old) (E.written err.new) (E.faults err.old)
+        (E.faults err.new)) (line_of why.now) }
 {
-    match prepare(alloc, words, shelf) {
-        Ok(answer) => match write_all(out, answer.report.as_slice()) {
-            Ok(()) => Ok(answer.status),
-            Err(_) => Err(Refusal::CannotWrite),
-        },
-        Err(refusal) => Err(refusal),
-    }
+    why.complain(err);
+    why.status()
 }
 
 /// Reads what the words name, writes the report to `out`, and answers the exit status; where there
@@ -156,65 +72,45 @@ pub fn expert<F: Shelf, O: Sink, E: Sink>(
     err: &mut E,
 ) -> u8
     // The status and the bytes are the stated function of the words and the files.
-    ensures headline { Stood (F.faults shelf.old) (F.faults shelf.new)
-        → Stood (O.faults out.old) (O.faults out.new)
-        → Stood (E.faults err.old) (E.faults err.new) → result ≢ 6 → IfSome (F.files shelf.old)
-        (λ files.
-        Gives (run words.now files) result (O.written out.old) (O.written out.new)
-        (E.written err.old) (E.written err.new)) }
-    ensures answered { is_report result ≡ true → IfSome (F.files shelf.old)
-        (λ files. ((run words.now files).status ≡ result)
-        × Appends (O.written out.old) (O.written out.new) (run words.now files).out) }
-    ensures refused { result ≡ 2 → IfSome (F.files shelf.old)
-        (λ files. ((run words.now files).status ≡ 2)
-        × WritesLine (E.written err.old) (E.written err.new) (E.faults err.old) (E.faults err.new)
-        (run words.now files).err) }
-    ensures exactly { Stood (F.faults shelf.old) (F.faults shelf.new)
-        → Stood (O.faults out.old) (O.faults out.new)
-        → result ≢ 6 → IfSome (F.files shelf.old) (λ files. result ≡ (run words.now files).status) }
-    ensures known { result ≤ 6 }
+    ensures told { RunsAsTold words.now (F.files shelf.old) (F.faults shelf.old)
+        (F.faults shelf.new)
+        (sent (O.written out.old) (O.written out.new) (O.faults out.old) (O.faults out.new))
+        (sent (E.written err.old) (E.written err.new) (E.faults err.old) (E.faults err.new))
+        result }
 
-    // On every database of the schema each printed plan gives the rows that its statement asks for.
-    ensures meaning { is_report result ≡ true → IfSome (F.files shelf.old)
-        (λ files. ReportMeans words.now files (run words.now files).out) }
+    // On every database of the schema each printed plan gives the rows that its statement asks for;
+    // over files whose bytes aren't told, of some bytes.
+    ensures report { is_report result ≡ true → Reports words.now (F.files shelf.old)
+        (sent (O.written out.old) (O.written out.new) (O.faults out.old) (O.faults out.new))
+        result }
 
-    // Over files that tell nothing of themselves too: what was written is the report on some bytes.
-    ensures read { is_report result ≡ true → (database : List ℕ)
-        × ((run words.now ((database_of words.now, database) ∷ [])).status ≡ result)
-        × Appends (O.written out.old) (O.written out.new)
-        (run words.now ((database_of words.now, database) ∷ [])).out
-        × ReportMeans words.now ((database_of words.now, database) ∷ [])
-        (run words.now ((database_of words.now, database) ∷ [])).out }
+    // 1 comes exactly where the words are no command.
+    ensures command { (result ≡ usage) ↔ (command_of words.now ≡ None) }
 
-    ensures usage { (result ≡ 1) ↔ (command_of words.now ≡ None) }
+    // 4 comes where a read failed, and else exactly where the named file is told to be missing.
+    ensures reads { ReadsAsTold words.now (F.files shelf.old) (F.faults shelf.old)
+        (F.faults shelf.new) result }
 
-    // A file that can't be read: where the count of the shelf rose, and where it lacks the file.
-    ensures read_only { result ≡ 4 → Lacks (F.files shelf.old) (database_of words.now)
-        ⊎ Rose (F.faults shelf.old) (F.faults shelf.new) }
-    ensures read_always { F.faults shelf.old < F.faults shelf.new → result ≡ 4 }
-    ensures read_lacks { result ≢ 1 → Lacks (F.files shelf.old) (database_of words.now)
-        → result ≡ 4 }
+    // 5 comes where, and only where, a write to `out` failed; it holds a front of the report then.
+    ensures writes { WritesAsTold words.now (F.files shelf.old)
+        (sent (O.written out.old) (O.written out.new) (O.faults out.old) (O.faults out.new))
+        result }
 
-    // A report that can't be written: where, and only where, the count of `out` rose.
-    ensures write_only { result ≡ 5 → Rose (O.faults out.old) (O.faults out.new) }
-    ensures write_always { O.faults out.old < O.faults out.new → result ≡ 5 }
-    ensures write_prefix { result ≡ 5 → IfSome (F.files shelf.old)
-        (λ files. (is_report (run words.now files).status ≡ true)
-        × AppendsProperPrefix (O.written out.old) (O.written out.new) (run words.now files).out) }
-
-    // Nothing is written to `out` after any other status, and to `err` after a report.
-    ensures out_unchanged { is_report result ≡ false → result ≢ 5 → out.new ≡ out.old }
+    // Nothing is half said: one stream alone is written to, but for 5.
+    ensures out_unchanged { is_report result ≡ false → result ≢ cannot_write
+        → out.new ≡ out.old }
     ensures err_unchanged { is_report result ≡ true → err.new ≡ err.old }
-    ensures err_line { is_report result ≡ false → (line : List ℕ)
-        × IsLineAfter result words.now line
-        × WritesLine (E.written err.old) (E.written err.new) (E.faults err.old)
-        (E.faults err.new) line }
+    ensures line { is_report result ≡ false → SaysWhy words.now
+        (sent (E.written err.old) (E.written err.new) (E.faults err.old) (E.faults err.new))
+        result }
+    ensures known { result ≤ out_of_memory }
 {
-    match attempt(alloc, words, shelf, out) {
-        Ok(status) => status,
-        Err(refusal) => {
-            refusal.complain(err);
-            refusal.status()
-        }
+    let answer = match prepare(alloc, words, shelf) {
+        Ok(answer) => answer,
+        Err(why) => return give_up(&why, err),
+    };
+    match write_all(out, answer.report.as_slice()) {
+        Ok(()) => answer.status,
+        Err(_) => give_up(&Refusal::CannotWrite, err),
     }
 }

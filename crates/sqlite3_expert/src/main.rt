@@ -2,24 +2,18 @@
 #![tactic(auto)]
 
 use expert_io::{FileShelf, StdSink, Words};
-use expert_main::expert;
+use expert_main::{OUT_OF_MEMORY, expert};
 use sql_value::{Bytes, Memory};
 use std::alloc::Global;
 use std::env::{Env, FillError};
 use std::process::ExitCode;
-
-/// The exit status where memory is wanting.
-const OUT_OF_MEMORY: u8 = 6;
 
 // A word of the command line as its bytes, which need not be UTF-8, or none behind the last.
 fn word<R: Env>(alloc: Global, rt: &R, i: usize) -> Result<Option<Bytes>, Memory> {
     let mut size = 256usize;
     // A word that is longer than the buffer is asked for again with twice the room.
     for _ in 0..32 {
-        let mut buf = match vec![in alloc; 0u8; size] {
-            Ok(buf) => buf,
-            Err(_) => return Err(Memory),
-        };
+        let mut buf = vec![in alloc; 0u8; size]?;
         match rt.arg(i, &mut buf) {
             Ok(n) => return Ok(Some(Bytes::copy(alloc, &buf[..n])?)),
             Err(FillError::NotPresent) => return Ok(None),

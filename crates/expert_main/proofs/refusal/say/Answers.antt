@@ -1,6 +1,0 @@
-use Rattle.expert_main.proofs.Lines.{writes_line}
-use Rattle.expert_main.proofs.refusal.say.Goals as goal
-
-pub returns : goal.returns
-returns g c = writes_line c.write_line.result _ _ _ _ _ c.write_line.ensures.ok
-    c.write_line.ensures.err c.write_line.ensures.cause
