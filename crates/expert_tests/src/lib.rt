@@ -1,5 +1,5 @@
-//! Tests of the grammar and of the whole program, over public calls. They stand apart from what
-//! they test, since a crate with tests of its own is proved twice.
+//! Whole runs of the program where a call outside fails, or where the script is longer than a command
+//! line holds. All other whole runs are the files of tests/, which the built program is run on.
 #![tactic(auto)]
 
 #[cfg(test)]

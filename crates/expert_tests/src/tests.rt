@@ -1,3 +1,2 @@
-//! A file for each topic.
-mod grammar;
+//! The whole program.
 mod program;

@@ -1,5 +1,4 @@
-//! A file for each topic.
+//! A file for each topic. In each table a row without an arrow fails.
 mod dumps;
 mod evaluation;
 mod schema;
-mod schema_texts;

@@ -1,6 +1,15 @@
 //! Bound statements as texts, which the tables of tests compare.
+//!
+//! - An item of FROM is its number, a column `item.column`, and its rowid `item.rowid`.
+//! - Behind a comparison stand what is applied to its sides (I INTEGER, R REAL, N NUMERIC, T TEXT,
+//!   B BLOB, - nothing) and its collation (b BINARY, n NOCASE, r RTRIM); behind IN what is applied to
+//!   the entries, and the collation.
+//! - An expression with an explicit collation has the letter of it behind a colon.
+//! - `&` comes before a conjunct, which has the item that owns it behind it; `by` before a key, which has its collation behind it, and a - where
+//!   it falls.
+//! - In parentheses stand the columns that are needed of an item.
 use sql_bound::{BExpr, BExprs, Bound};
-use sql_tree::{Lit, Op};
+use sql_tree::{Cut, Lit, Op};
 use sql_value::{Affinity, Bytes, Collation, Memory};
 
 fn append_digit(shown: &mut Bytes, number: u32) -> Result<(), Memory> {
@@ -90,6 +99,11 @@ fn append_expr(shown: &mut Bytes, expr: &BExpr) -> Result<(), Memory> {
             shown.push(affinity_letter(*conv))?;
             shown.push(collation_letter(*coll))
         }
+        BExpr::Like(not, left, pattern) => {
+            append_expr(shown, left)?;
+            shown.append(if *not { b" not like " } else { b" like " })?;
+            append_expr(shown, pattern)
+        }
         BExpr::Not(inner) => {
             shown.append(b"not ")?;
             append_expr(shown, inner)
@@ -126,12 +140,16 @@ pub(crate) fn append_results(shown: &mut Bytes, bound: &Bound) -> Result<(), Mem
     Ok(())
 }
 
-/// Each conjunct.
+/// Each conjunct, and behind it the item that owns it.
 fn append_conjuncts(shown: &mut Bytes, bound: &Bound) -> Result<(), Memory> {
     for conjunct in bound.conjuncts {
         shown.append(b"& ")?;
         append_expr(shown, conjunct.expr)?;
         shown.push(b' ')?;
+        if let Some(owner) = conjunct.owner {
+            append_digit(shown, owner)?;
+            shown.push(b' ')?;
+        }
     }
     Ok(())
 }
@@ -159,9 +177,27 @@ fn append_needs(shown: &mut Bytes, bound: &Bound) -> Result<(), Memory> {
     Ok(())
 }
 
+/// A count, if there is one; a parameter is a `?`.
+fn append_cut(shown: &mut Bytes, name: &[u8], cut: Option<Cut>) -> Result<(), Memory> {
+    match cut {
+        Some(Cut::Count(number @ 0..=9)) => {
+            shown.append(name)?;
+            append_digit(shown, number as u32)?;
+            shown.push(b' ')
+        }
+        Some(_) => {
+            shown.append(name)?;
+            shown.append(b"? ")
+        }
+        None => Ok(()),
+    }
+}
+
 pub(crate) fn append_bound(shown: &mut Bytes, bound: &Bound) -> Result<(), Memory> {
     append_results(shown, bound)?;
     append_conjuncts(shown, bound)?;
     append_keys(shown, bound)?;
+    append_cut(shown, b"limit ", bound.limit)?;
+    append_cut(shown, b"offset ", bound.offset)?;
     append_needs(shown, bound)
 }

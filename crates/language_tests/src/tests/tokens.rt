@@ -1,4 +1,5 @@
 //! Tables of cases: the forms of tokens, bad tokens, and what tokens mean.
+use super::shown::{append_found, token_letter};
 use sql_tokens::{
     Number, Symbol, Terminal, Token, TokenKind, lex, signed_number, terminal_at, token_number,
     token_text, token_value,
@@ -7,8 +8,7 @@ use sql_value::{Bytes, Keyword, Memory, Value};
 use std::alloc::Global;
 use std::test::Fail;
 
-/// Texts, and behind `=>` their tokens: word, text, blob, quoted name, number, parameter, symbol,
-/// or bad.
+/// Texts, each with its tokens behind `=>` in the line below: the letter of each, and its text.
 const TOKENS: &str = " \t\n\x0c\ra
 => w:a
 
@@ -88,48 +88,45 @@ _a$1é ä Select$
 ! ^ \\ {\0
 => !:! !:^ !:\\ !:{ !:\0";
 
-fn letter(kind: TokenKind) -> &'static [u8] {
-    match kind {
-        TokenKind::Word => b"w:",
-        TokenKind::Text => b"t:",
-        TokenKind::Blob => b"b:",
-        TokenKind::Quoted => b"q:",
-        TokenKind::Number => b"n:",
-        TokenKind::Parameter => b"p:",
-        TokenKind::Symbol => b"s:",
-        TokenKind::Bad => b"!:",
-    }
-}
-
-fn shown(alloc: Global, text: &[u8]) -> Result<Bytes, Memory> {
-    let mut seen = Bytes::new(alloc);
+fn append_tokens(seen: &mut Bytes, alloc: Global, text: &[u8]) -> Result<(), Memory> {
     if text.len() > 1000 {
-        return Ok(seen);
+        return Ok(());
     }
     let tokens = lex(alloc, text)?;
     for token in tokens.as_slice() {
-        seen.append(b" ")?;
-        seen.append(letter(token.kind))?;
+        seen.push(b' ')?;
+        seen.push(token_letter(token.kind))?;
+        seen.push(b':')?;
         seen.append(token_text(text, *token))?;
     }
-    Ok(seen)
+    Ok(())
+}
+
+fn has_tokens(alloc: Global, text: &[u8], want: &[u8]) -> Result<bool, Memory> {
+    let mut seen = Bytes::new(alloc);
+    append_tokens(&mut seen, alloc, text)?;
+    Ok(seen.as_slice() == want)
+}
+
+fn has_these_tokens(alloc: Global, block: &str) -> Result<bool, Memory> {
+    match block.split_once("\n=>") {
+        Some((text, want)) => has_tokens(alloc, text.as_bytes(), want.as_bytes()),
+        None => Ok(false),
+    }
 }
 
 #[test]
 fn texts_have_these_tokens(rt: HostRuntime) -> Result<(), Fail> {
     for block in TOKENS.split("\n\n") {
-        if let Some((text, want)) = block.split_once("\n=>") {
-            let seen = shown(rt.alloc(), text.as_bytes())?;
-            assert_eq!(rt; seen.as_slice(), want.as_bytes(), "{text}");
-        }
+        assert!(rt; has_these_tokens(rt.alloc(), block)?, "{block}");
     }
-    let seen = shown(rt.alloc(), b"_a$1\xe9 \xc3\xa9")?;
-    assert_eq!(rt; seen.as_slice(), b" w:_a$1\xe9 w:\xc3\xa9".as_slice());
+    let want = b" w:_a$1\xe9 w:\xc3\xa9";
+    assert!(rt; has_tokens(rt.alloc(), b"_a$1\xe9 \xc3\xa9", want)?);
     Ok(())
 }
 
-/// Tokens, and their values.
-const VALUES: &str = "
+/// Tokens, and what they mean: a number as it is without a sign, else the bytes of its value.
+const MEANINGS: &str = "\
 'a''b' => a'b
 '''' => '
 '' =>\x20
@@ -138,74 +135,80 @@ const VALUES: &str = "
 [a''b] => a''b
 x'4a4B' => JK
 Ab => Ab
-";
+0 => i0
+007 => i7
+9223372036854775807 => i9223372036854775807
+9223372036854775808 => past i9223372036854775807
+9223372036854775809 => none
+1.5 => d15000
+1. => d10000
+.5 => d5000
+1.50000 => d15000
+1.00001 => none
+000000000000000000000001.5 => d15000
+99999999999.9999 => d999999999999999
+100000000000.0 => none
+1e5 => none
+0x10 => none";
 
-/// The value of the one token of a text.
-fn value_of(alloc: Global, text: &[u8]) -> Result<Bytes, Memory> {
+/// 2^63 is a number behind a minus alone, so it is told as the one past the greatest integer.
+fn append_unsigned(seen: &mut Bytes, alloc: Global, text: &[u8]) -> Result<(), Memory> {
+    let number = token_number(text);
+    if number == Some(Number::Int(1 << 63)) {
+        seen.append(b"past ")?;
+        return append_found(seen, alloc, &Some(Value::Int(i64::MAX)));
+    }
+    match number {
+        Some(number) => append_found(seen, alloc, &signed_number(false, number)),
+        None => append_found(seen, alloc, &None),
+    }
+}
+
+fn append_meaning(seen: &mut Bytes, alloc: Global, text: &[u8]) -> Result<(), Memory> {
     if text.len() > 1000 {
-        return Ok(Bytes::new(alloc));
+        return Ok(());
     }
     match lex(alloc, text)?.as_slice() {
-        [token] => token_value(alloc, text, *token),
-        _ => Bytes::copy(alloc, b"not one token"),
+        [token] if token.kind == TokenKind::Number => append_unsigned(seen, alloc, text),
+        [token] => seen.append(token_value(alloc, text, *token)?.as_slice()),
+        _ => seen.append(b"not one token"),
+    }
+}
+
+fn means(alloc: Global, text: &[u8], want: &[u8]) -> Result<bool, Memory> {
+    let mut seen = Bytes::new(alloc);
+    append_meaning(&mut seen, alloc, text)?;
+    Ok(seen.as_slice() == want)
+}
+
+fn means_this(alloc: Global, row: &str) -> Result<bool, Memory> {
+    match row.split_once(" => ") {
+        Some((text, want)) => means(alloc, text.as_bytes(), want.as_bytes()),
+        None => Ok(false),
     }
 }
 
 #[test]
-fn tokens_have_these_values(rt: HostRuntime) -> Result<(), Fail> {
-    for line in VALUES.lines() {
-        if let Some((text, want)) = line.split_once(" => ") {
-            let value = value_of(rt.alloc(), text.as_bytes())?;
-            assert_eq!(rt; value.as_slice(), want.as_bytes(), "{text}");
-        }
+fn tokens_mean_these(rt: HostRuntime) -> Result<(), Fail> {
+    for row in MEANINGS.lines() {
+        assert!(rt; means_this(rt.alloc(), row)?, "{row}");
     }
-    let value = value_of(rt.alloc(), b"x'0aF0'")?;
-    assert_eq!(rt; value.as_slice(), b"\n\xf0".as_slice());
+    assert!(rt; means(rt.alloc(), b"x'0aF0'", b"\n\xf0")?);
     Ok(())
 }
 
-/// Numbers with what they are without a sign, if they are within the range that is read.
-#[test]
-fn numbers_are_these(rt: HostRuntime) {
-    let most = 9_223_372_036_854_775_807;
-    assert_eq!(rt; token_number(b"0"), Some(Number::Int(0)));
-    assert_eq!(rt; token_number(b"007"), Some(Number::Int(7)));
-    assert_eq!(rt;
-        token_number(b"9223372036854775807"),
-        Some(Number::Int(most))
-    );
-    assert_eq!(rt;
-        token_number(b"9223372036854775808"),
-        Some(Number::Int(most + 1))
-    );
-    assert_eq!(rt; token_number(b"9223372036854775809"), None);
-    assert_eq!(rt; token_number(b"1.5"), Some(Number::Dec(15_000)));
-    assert_eq!(rt; token_number(b"1."), Some(Number::Dec(10_000)));
-    assert_eq!(rt; token_number(b".5"), Some(Number::Dec(5_000)));
-    assert_eq!(rt; token_number(b"1.50000"), Some(Number::Dec(15_000)));
-    assert_eq!(rt; token_number(b"1.00001"), None);
-    assert_eq!(rt;
-        token_number(b"000000000000000000000001.5"),
-        Some(Number::Dec(15_000))
-    );
-    assert_eq!(rt;
-        token_number(b"99999999999.9999"),
-        Some(Number::Dec(999_999_999_999_999))
-    );
-    assert_eq!(rt; token_number(b"100000000000.0"), None);
-    assert_eq!(rt; token_number(b"1e5"), None);
-    assert_eq!(rt; token_number(b"0x10"), None);
-}
-
-#[test]
-fn signs_bring_the_least_integer_within_range(rt: HostRuntime) {
-    let least = Number::Int(9223372036854775808);
-    assert!(rt; matches!(signed_number(true, least), Some(Value::Int(i64::MIN))));
-    assert!(rt; signed_number(false, least).is_none());
-    let tenth = signed_number(true, Number::Dec(1000));
-    assert!(rt; matches!(tenth, Some(Value::Dec(-1000))));
-    let half = signed_number(true, Number::Dec(15_000));
-    assert!(rt; matches!(half, Some(Value::Dec(-15_000))));
+fn minus_brings_the_least_integer() -> bool {
+    let least = Number::Int(1 << 63);
+    matches!(signed_number(true, least), Some(Value::Int(i64::MIN)))
+        && signed_number(false, least).is_none()
+        && matches!(
+            signed_number(true, Number::Dec(1000)),
+            Some(Value::Dec(-1000))
+        )
+        && matches!(
+            signed_number(true, Number::Dec(15_000)),
+            Some(Value::Dec(-15_000))
+        )
 }
 
 fn token(kind: TokenKind, end: u32) -> Token {
@@ -216,12 +219,17 @@ fn token(kind: TokenKind, end: u32) -> Token {
     }
 }
 
-#[test]
-fn words_and_symbols_are_terminals(rt: HostRuntime) {
+fn words_and_symbols_are_terminals() -> bool {
     let select = terminal_at(b"Select", token(TokenKind::Word, 6));
-    assert!(rt; matches!(select, Terminal::Keyword(Keyword::Select)));
     let arrow = terminal_at(b"->>", token(TokenKind::Symbol, 3));
-    assert!(rt; matches!(arrow, Terminal::Symbol(Symbol::LongArrow)));
     let name = terminal_at(b"\"select\"", token(TokenKind::Quoted, 8));
-    assert!(rt; matches!(name, Terminal::Quoted));
+    matches!(select, Terminal::Keyword(Keyword::Select))
+        && matches!(arrow, Terminal::Symbol(Symbol::LongArrow))
+        && matches!(name, Terminal::Quoted)
+}
+
+#[test]
+fn tokens_are_terminals(rt: HostRuntime) {
+    assert!(rt; minus_brings_the_least_integer());
+    assert!(rt; words_and_symbols_are_terminals());
 }

@@ -4,8 +4,9 @@ ghost use Rattle.sql_meaning.specs.Letters.{folded_bytes};
 ghost use Rattle.schema_model.specs.Schemas.{IsTable, IsIndexOf, is_taken, size};
 
 use schema_model::{
-    Column, Columns, Found, Index, IndexColumn, IndexColumns, Row, RowList, Schema, Table, Tables,
-    add_index, add_table, add_unread, conforms, find_column, find_table, name_taken, print_create,
+    COLUMN_LIMIT, Column, Columns, Found, Index, IndexColumn, IndexColumns, Row, RowList, Schema,
+    Table, Tables, add_index, add_table, add_unread, conforms, find_column, find_table, name_taken,
+    print_create,
 };
 use sql_value::{Affinity, Bytes, Collation, Memory, Value, Values, fold};
 use std::alloc::Global;
@@ -101,33 +102,24 @@ fn add_by_title(alloc: Global, schema: &mut Schema) -> Result<(), Memory> {
     add_index(alloc, schema, index)
 }
 
-/// What the schema has under a name: the table, and whether the name is taken.
-fn found(alloc: Global, name: &[u8]) -> Result<(Found, bool), Memory> {
-    let schema = shop(alloc)?;
-    Ok((find_table(&schema, name), name_taken(&schema, name)))
+fn finds_names(schema: &Schema) -> bool {
+    find_table(schema, b"item") == Found::Read(0)
+        && find_table(schema, b"v") == Found::Unread
+        && find_table(schema, b"by_title") == Found::Missing
+        && find_table(schema, b"title") == Found::Missing
+        && name_taken(schema, b"item")
+        && name_taken(schema, b"v")
+        && name_taken(schema, b"by_title")
+        && !name_taken(schema, b"title")
 }
 
-#[test]
-fn names_are_found(rt: HostRuntime) -> Result<(), Fail> {
-    let alloc = rt.alloc();
-    assert_eq!(rt; found(alloc, b"item")?, (Found::Read(0), true));
-    assert_eq!(rt; found(alloc, b"v")?, (Found::Unread, true));
-    assert_eq!(rt; found(alloc, b"by_title")?, (Found::Missing, true));
-    assert_eq!(rt; found(alloc, b"title")?, (Found::Missing, false));
-    Ok(())
-}
-
-fn counts(schema: &Schema) -> (u32, u32, u32) {
-    (
-        schema.table_count(),
-        schema.unread_count(),
-        schema.index_count(),
-    )
+fn has_one_of_each(schema: &Schema) -> bool {
+    schema.table_count() == 1 && schema.unread_count() == 1 && schema.index_count() == 1
 }
 
 /// The number of a column of the first table.
 fn place_of(schema: &Schema, name: &[u8]) -> Option<u32> {
-    if schema.table_count() == 0 || schema.table(0).columns.as_slice().len() > 2000 {
+    if schema.table_count() == 0 || schema.table(0).columns.as_slice().len() > COLUMN_LIMIT {
         return None;
     }
     find_column(schema.table(0), name)
@@ -137,23 +129,21 @@ fn first_is_usable(schema: &Schema) -> bool {
     schema.index_count() > 0 && schema.index(0).usable
 }
 
-#[test]
-fn parts_are_found(rt: HostRuntime) -> Result<(), Fail> {
-    let schema = shop(rt.alloc())?;
-    assert_eq!(rt; counts(&schema), (1, 1, 1));
-    assert_eq!(rt; place_of(&schema, b"title"), Some(1));
-    assert_eq!(rt; place_of(&schema, b"item"), None);
-    assert!(rt; first_is_usable(&schema));
-    Ok(())
+fn prints_an_index(alloc: Global, schema: &Schema) -> Result<bool, Memory> {
+    let index = by_title(alloc, schema)?;
+    let text = print_create(alloc, schema, &index)?;
+    let want: &[u8] = b"CREATE INDEX by_title ON Item(Title COLLATE BINARY DESC)";
+    Ok(text.as_slice() == want)
 }
 
 #[test]
-fn prints_an_index(rt: HostRuntime) -> Result<(), Fail> {
+fn parts_are_found(rt: HostRuntime) -> Result<(), Fail> {
     let schema = shop(rt.alloc())?;
-    let index = by_title(rt.alloc(), &schema)?;
-    let text = print_create(rt.alloc(), &schema, &index)?;
-    let want: &[u8] = b"CREATE INDEX by_title ON Item(Title COLLATE BINARY DESC)";
-    assert_eq!(rt; text.as_slice(), want);
+    assert!(rt; finds_names(&schema));
+    assert!(rt; has_one_of_each(&schema));
+    assert!(rt; place_of(&schema, b"title") == Some(1) && place_of(&schema, b"item").is_none());
+    assert!(rt; first_is_usable(&schema));
+    assert!(rt; prints_an_index(rt.alloc(), &schema)?);
     Ok(())
 }
 
@@ -199,25 +189,44 @@ fn one_table(alloc: Global, rows: RowList) -> Result<Tables, Memory> {
 }
 
 /// Whether a row may stand in the table behind row 1.
-fn may_follow(alloc: Global, rowid: i64, id: i64, price: Price<'_>) -> Result<bool, Memory> {
-    let schema = shop(alloc)?;
+fn may_follow(
+    alloc: Global,
+    schema: &Schema,
+    rowid: i64,
+    id: i64,
+    price: Price<'_>,
+) -> Result<bool, Memory> {
     let next = row(alloc, rowid, id, price)?;
     let tables = one_table(alloc, two_rows(alloc, next)?)?;
-    Ok(conforms(&schema, &tables))
+    Ok(conforms(schema, &tables))
+}
+
+fn rows_may_follow(alloc: Global, schema: &Schema) -> Result<bool, Memory> {
+    Ok(
+        may_follow(alloc, schema, 2, 2, Price::Decimal(45000))?
+            && may_follow(alloc, schema, 2, 2, Price::Missing)?
+            && may_follow(alloc, schema, 2, 2, Price::Whole(100_000_000_000))?
+            && may_follow(alloc, schema, 2, 2, Price::Written(b"dear"))?,
+    )
+}
+
+/// Whether a rowid stands again or falls, an alias differs from it, or a price isn't converted or
+/// past its range.
+fn a_row_may_follow_in_spite(alloc: Global, schema: &Schema) -> Result<bool, Memory> {
+    Ok(
+        may_follow(alloc, schema, 1, 1, Price::Missing)?
+            || may_follow(alloc, schema, 0, 0, Price::Missing)?
+            || may_follow(alloc, schema, 2, 3, Price::Missing)?
+            || may_follow(alloc, schema, 2, 2, Price::Whole(4))?
+            || may_follow(alloc, schema, 2, 2, Price::Written(b"4.5"))?
+            || may_follow(alloc, schema, 2, 2, Price::Decimal(1_000_000_000_000_000))?,
+    )
 }
 
 #[test]
 fn rows_conform(rt: HostRuntime) -> Result<(), Fail> {
-    let alloc = rt.alloc();
-    assert!(rt; may_follow(alloc, 2, 2, Price::Decimal(45000))?);
-    assert!(rt; may_follow(alloc, 2, 2, Price::Missing)?);
-    assert!(rt; may_follow(alloc, 2, 2, Price::Whole(100_000_000_000))?);
-    assert!(rt; may_follow(alloc, 2, 2, Price::Written(b"dear"))?);
-    assert!(rt; !may_follow(alloc, 1, 1, Price::Missing)?);
-    assert!(rt; !may_follow(alloc, 0, 0, Price::Missing)?);
-    assert!(rt; !may_follow(alloc, 2, 3, Price::Missing)?);
-    assert!(rt; !may_follow(alloc, 2, 2, Price::Whole(4))?);
-    assert!(rt; !may_follow(alloc, 2, 2, Price::Written(b"4.5"))?);
-    assert!(rt; !may_follow(alloc, 2, 2, Price::Decimal(1_000_000_000_000_000))?);
+    let schema = shop(rt.alloc())?;
+    assert!(rt; rows_may_follow(rt.alloc(), &schema)?);
+    assert!(rt; !a_row_may_follow_in_spite(rt.alloc(), &schema)?);
     Ok(())
 }
