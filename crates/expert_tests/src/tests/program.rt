@@ -26,7 +26,7 @@ refused: expression too deep
 ";
 
 /// No call of the objects in memory has this number.
-const NEVER: u64 = 99;
+const NEVER: u64 = u64::MAX;
 
 fn shelf(alloc: Global, failing: u64, most: u64) -> Result<MemoryShelf, Memory>
     requires { 1 ≤ most }
