@@ -1,0 +1,2 @@
+pub mod MappedSorts
+pub mod SortColumns

@@ -1,0 +1,4 @@
+pub mod Lists
+pub mod DistinctKeys
+pub mod Pieces
+pub mod PartKeys

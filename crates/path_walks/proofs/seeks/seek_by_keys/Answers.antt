@@ -1,0 +1,29 @@
+use Rattle.std.proofs.Common.{◌≡◌, ap, sym, ◌∙◌, map, drop, length, []}
+use Rattle.std.specs.List.{flat_map}
+use Rattle.std.specs.Option.{option_map}
+use Rattle.std.proofs.lemmas.List.{take_rest, drop-map}
+use Rattle.list_laws.proofs.Lists.{flat_map_same}
+use Rattle.path_walks.specs.Columns.{plain_sort_column, first_of}
+use Rattle.path_walks.specs.Ends.{plain_end}
+use Rattle.path_walks.specs.Seeks.{seek_keys, rows_within, lent_lists}
+use Rattle.path_walks.proofs.Pieces.{within_is}
+use Rattle.path_walks.proofs.seeks.seek_by_keys.Goals as goal
+
+pub returns : goal.returns
+returns c =
+    let n = length c.args.keys.now in
+    let low = plain_end c.args.low in
+    let high = plain_end c.args.high in
+    let columns = c.args.columns.now in
+    let rest = drop n (map plain_sort_column columns) in
+    let next : option_map plain_sort_column c.first_column-next.result ≡ first_of rest =
+    c.first_column-next.ensures
+    ∙ ap (λ ss. first_of (map plain_sort_column ss)) (take_rest columns n)
+    ∙ ap first_of (sym (drop-map plain_sort_column n columns)) in
+    c.in_ok-list.ensures
+    ∙ ap (λ s. flat_map (rows_within s low high) (lent_lists c.as_slice.result.now)) next
+    ∙ ap (λ ps. flat_map (rows_within (first_of rest) low high) (lent_lists ps))
+    c.as_slice.ensures.value
+    ∙ flat_map_same _ (seek_keys rest [] low high) (lent_lists c.in_ok-pieces.pieces.items)
+    (within_is rest low high)
+    ∙ c.in_ok-pieces.ensures low high
