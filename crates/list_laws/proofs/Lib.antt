@@ -10,5 +10,6 @@ pub mod FirstComings
 pub mod KeyStretches
 pub mod Unions
 pub mod Nests
+pub mod WeighedNests
 pub mod NestOrders
 pub mod Arrangements

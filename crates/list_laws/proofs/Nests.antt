@@ -60,7 +60,7 @@ filter_alike p q (y ∷ ys) h = rw (h.0, filter_alike p q ys h.1) refl
 one_row : {X : Type 0} (rows : ℕ → Env X → List X) (u : Env X → Bool) (us : List (Env X → Bool))
     (t : Step X) (ts : List (Step X)) (placed : List ℕ) (env : Env X)
     → AllByRecursion (λ j. j ≢ t.item) (step_items ts) → Apart (t.item ∷ placed) (step_items ts)
-    → IsStep rows placed u t → (x : X)
+    → IsStep IsPermutation rows placed u t → (x : X)
     → IsPermutation (nested ts (place env t.item x))
     (filter (kept us ts) (product rows (step_items ts) (place env t.item x)))
     → IsPermutation
@@ -94,7 +94,7 @@ inside_place env i x items h = all_map _ _ items (λ j lt. rw length-set lt) h
 pub nested_is : {X : Type 0} (rows : ℕ → Env X → List X) (us : List (Env X → Bool))
     (ts : List (Step X)) (placed : List ℕ) (env : Env X)
     → Inside (step_items ts) env → Distinct (step_items ts) → Apart placed (step_items ts)
-    → AreSteps rows placed us ts
+    → AreSteps IsPermutation rows placed us ts
     → IsPermutation (nested ts env) (filter (kept us ts) (product rows (step_items ts) env))
 nested_is rows [] [] placed env inside distinct apart steps = IsPermutation-refl (env ∷ [])
 nested_is rows [] (t ∷ ts) placed env inside distinct apart steps = absurd steps
@@ -126,17 +126,17 @@ nested_is {X} rows (u ∷ us) (t ∷ ts) placed env inside distinct apart steps 
     follow x = cond (t.test (place env t.item x)) (nested ts (place env t.item x)) []
 
 -- what is kept depends on the placed items and the block's own alone
-pub kept_looks : {X : Type 0} (rows : ℕ → Env X → List X) (us : List (Env X → Bool))
-    (ts : List (Step X)) (placed : List ℕ) (env a : Env X)
-    → AreSteps rows placed us ts → Agree (step_items ts) env a → Agree placed env a
+pub kept_looks : {X : Type 0} (like : List X → List X → Type 0) (rows : ℕ → Env X → List X)
+    (us : List (Env X → Bool)) (ts : List (Step X)) (placed : List ℕ) (env a : Env X)
+    → AreSteps like rows placed us ts → Agree (step_items ts) env a → Agree placed env a
     → kept us ts a ≡ kept us ts env
-kept_looks rows [] ts placed env a steps h k = refl
-kept_looks rows (u ∷ us) [] placed env a steps h k = refl
-kept_looks rows (u ∷ us) (t ∷ ts) placed env a steps h k =
+kept_looks like rows [] ts placed env a steps h k = refl
+kept_looks like rows (u ∷ us) [] placed env a steps h k = refl
+kept_looks like rows (u ∷ us) (t ∷ ts) placed env a steps h k =
     rw (
       steps.0.asked_looks env a (h.0, k),
       steps.0.test_looks env a (h.0, k),
-      kept_looks rows us ts (t.item ∷ placed) env a steps.1 h.1 (h.0, k),
+      kept_looks like rows us ts (t.item ∷ placed) env a steps.1 h.1 (h.0, k),
     ) refl
 
 pub all_reorders : {free : ℕ → Bool} (P : ℕ → Type 0) (is js : List ℕ) → Rearranges free is js
@@ -195,7 +195,7 @@ product_reorders rows free items others (after is js ks r s) env =
 pub nested_in_order : {X : Type 0} {free : ℕ → Bool} (rows : ℕ → Env X → List X) → AreFree free rows
     → (us : List (Env X → Bool)) (ts : List (Step X)) (order placed : List ℕ) (env : Env X)
     → Rearranges free (step_items ts) order → Inside order env → Distinct order → Apart placed order
-    → AreSteps rows placed us ts
+    → AreSteps IsPermutation rows placed us ts
     → IsPermutation (nested ts env) (filter (kept us ts) (product rows order env))
 nested_in_order rows free us ts order placed env re inside distinct apart steps =
     IsPermutation-trans _ _ _
@@ -216,42 +216,57 @@ not_both false k m h e f = refl
 
 -- over any assignments of the items to its left, a block of loops finds, in any order of its items,
 -- the extensions on which the block's conjuncts hold, but for such as nothing to the right
--- completes
-pub block_law : {X : Type 0} {free : ℕ → Bool} (rows : ℕ → Env X → List X) → AreFree free rows
-    → (cs : List (Env X → Bool)) (block : Env X → Bool) (us : List (Env X → Bool))
+-- completes; given what its loops find as a filter of the product
+pub block_law : {X : Type 0} {free : ℕ → Bool} (like_rows : List X → List X → Type 0)
+    (like : List (Env X) → List (Env X) → Type 0) (rows : ℕ → Env X → List X)
+    (cs : List (Env X → Bool)) (block : Env X → Bool) (us : List (Env X → Bool))
     (ts : List (Step X)) (order left : List ℕ) (G : List (Env X))
-    → Rearranges free (step_items ts) order → AllByRecursion (Inside order) G → Distinct order
-    → Apart left order → AreSteps rows left us ts
+    → like (flat_map (nested ts) G) (flat_map (λ g. filter (kept us ts) (product rows order g)) G)
+    → Rearranges free (step_items ts) order → AreSteps like_rows rows left us ts
     → ((a : Env X) → kept us ts a ≡ true → block a ≡ true)
     → ((a : Env X) → all_hold cs a ≡ true → kept us ts a ≡ true)
-    → IsPartOf (order ++ left) cs (flat_map (nested ts) G)
+    → IsPartOf like (order ++ left) cs (flat_map (nested ts) G)
     (flat_map (λ g. filter block (product rows order g)) G)
-block_law {X} rows free cs block us ts order left G re inside distinct apart steps settles sound =
+block_law {X} like_rows like rows cs block us ts order left G found re steps settles sound =
     record {
       stays = kept us ts;
       permutes =
-          subst (IsPermutation (flat_map (nested ts) G))
+          subst (like (flat_map (nested ts) G))
           (flat_map_same _ _ G
           (λ g. sym
           (filter-filter block (kept us ts) (product rows order g)
           ∙ filter_agree _ _ (λ a. and_implied (block a) (kept us ts a) (settles a))
           (product rows order g)))
-          ∙ sym (filter-flat_map (kept us ts) (λ g. filter block (product rows order g)) G))
-          (flat_map_permutes (nested ts) (λ g. filter (kept us ts) (product rows order g)) G
-          (all_map _ _ G
-          (λ g h. nested_in_order rows free us ts order left g re h distinct apart steps) inside));
+          ∙ sym (filter-flat_map (kept us ts) (λ g. filter block (product rows order g)) G)) found;
       left_out = λ h e a agrees.
           not_both (all_hold cs a) (kept us ts a) (kept us ts h) (sound a)
-          (kept_looks rows us ts left h a steps
+          (kept_looks like_rows rows us ts left h a steps
           (all_reorders _ _ _ re (agree_first order left h a agrees))
           (agree_second order left h a agrees)) e;
     }
+
+-- the same of loops that give permutations
+pub block_permutes : {X : Type 0} {free : ℕ → Bool} (rows : ℕ → Env X → List X) → AreFree free rows
+    → (cs : List (Env X → Bool)) (block : Env X → Bool) (us : List (Env X → Bool))
+    (ts : List (Step X)) (order left : List ℕ) (G : List (Env X))
+    → Rearranges free (step_items ts) order → AllByRecursion (Inside order) G → Distinct order
+    → Apart left order → AreSteps IsPermutation rows left us ts
+    → ((a : Env X) → kept us ts a ≡ true → block a ≡ true)
+    → ((a : Env X) → all_hold cs a ≡ true → kept us ts a ≡ true)
+    → IsPartOf IsPermutation (order ++ left) cs (flat_map (nested ts) G)
+    (flat_map (λ g. filter block (product rows order g)) G)
+block_permutes rows free cs block us ts order left G re inside distinct apart steps settles sound =
+    block_law IsPermutation IsPermutation rows cs block us ts order left G
+    (flat_map_permutes (nested ts) (λ g. filter (kept us ts) (product rows order g)) G
+    (all_map _ _ G (λ g h. nested_in_order rows free us ts order left g re h distinct apart steps)
+    inside)) re steps settles sound
 
 -- one block of all items, from the one empty assignment: nothing is left out
 pub join_law : {X : Type 0} {free : ℕ → Bool} (rows : ℕ → Env X → List X) → AreFree free rows
     → (cs us : List (Env X → Bool)) (ts : List (Step X)) (order : List ℕ) (env : Env X)
     → Rearranges free (step_items ts) order → Inside order env → Distinct order
-    → AreSteps rows [] us ts → ((a : Env X) → kept us ts a ≡ true → all_hold cs a ≡ true)
+    → AreSteps IsPermutation rows [] us ts
+    → ((a : Env X) → kept us ts a ≡ true → all_hold cs a ≡ true)
     → ((a : Env X) → all_hold cs a ≡ true → kept us ts a ≡ true)
     → IsPermutation (nested ts env) (filter (all_hold cs) (product rows order env))
 join_law rows free cs us ts order env re inside distinct steps settles sound =

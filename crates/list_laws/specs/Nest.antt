@@ -2,7 +2,6 @@
 use Rattle.std.specs.Prelude.{List, Option, ℕ, Some, slice_set, Bool, true, false, cond, [], ◌∷◌}
 use Rattle.std.specs.Prelude.{◌≡◌, None, slice_index_or, ◌≢◌, ◌&&◌, ◌<◌, length}
 use Rattle.std.specs.List.{AllByRecursion, flat_map, filter}
-use Rattle.std.specs.List.Sorted.{IsPermutation}
 
 -- an assignment: a row for each item that is placed, and nothing for the others
 abbrev pub Env : Type 0 → Type 0
@@ -71,24 +70,24 @@ step_items (t ∷ ts) = t.item ∷ step_items ts
 abbrev pub Looks : {X : Type 0} → List ℕ → (Env X → Bool) → Type 0
 Looks {X} items p = (env a : Env X) → Agree items env a → p a ≡ p env
 
--- a loop that keeps its word, after these items were placed: it walks, in some order, just those of
--- its item's rows that it was asked for; and what it looks at is placed
-pub record IsStep {X : Type 0} (rows : ℕ → Env X → List X) (placed : List ℕ)
-    (asked : Env X → Bool) (t : Step X) : Type 0
+-- a loop that keeps its word, after these items were placed: it walks the same rows as those of its
+-- item that it was asked for (in another order, or only weighed alike); what it looks at is placed
+pub record IsStep {X : Type 0} (like : List X → List X → Type 0) (rows : ℕ → Env X → List X)
+    (placed : List ℕ) (asked : Env X → Bool) (t : Step X) : Type 0
   where
     pub walks : (env : Env X) → t.item < length env
-        → IsPermutation (t.walk env) (filter (λ x. asked (place env t.item x)) (rows t.item env))
+        → like (t.walk env) (filter (λ x. asked (place env t.item x)) (rows t.item env))
     pub asked_looks : Looks (t.item ∷ placed) asked
     pub test_looks : Looks (t.item ∷ placed) t.test
 
 -- each loop keeps its word, after those outside it
-abbrev pub AreSteps : {X : Type 0} → (ℕ → Env X → List X) → List ℕ → List (Env X → Bool)
-    → List (Step X) → Type 0
-AreSteps rows placed [] [] = Unit {0}
-AreSteps rows placed [] (t ∷ ts) = ⊥
-AreSteps rows placed (asked ∷ others) [] = ⊥
-AreSteps rows placed (asked ∷ others) (t ∷ ts) =
-    IsStep rows placed asked t × AreSteps rows (t.item ∷ placed) others ts
+abbrev pub AreSteps : {X : Type 0} → (List X → List X → Type 0) → (ℕ → Env X → List X) → List ℕ
+    → List (Env X → Bool) → List (Step X) → Type 0
+AreSteps like rows placed [] [] = Unit {0}
+AreSteps like rows placed [] (t ∷ ts) = ⊥
+AreSteps like rows placed (asked ∷ others) [] = ⊥
+AreSteps like rows placed (asked ∷ others) (t ∷ ts) =
+    IsStep like rows placed asked t × AreSteps like rows (t.item ∷ placed) others ts
 
 -- each number stands once
 abbrev pub Distinct : List ℕ → Type 0
@@ -103,12 +102,12 @@ Apart placed items = AllByRecursion (λ j. AllByRecursion (λ k. k ≢ j) items)
 abbrev pub Inside : {X : Type 0} → List ℕ → Env X → Type 0
 Inside items env = AllByRecursion (λ i. i < length env) items
 
--- what was found has the members of a list, as often, but for some that were left out early; and
--- one is left out only where no rows of the other items make all conjuncts hold
-pub record IsPartOf {X : Type 0} (items : List ℕ) (conjuncts : List (Env X → Bool))
-    (found members : List (Env X)) : Type 0
+-- what was found has the same members as a list, but for some that were left out early; and one is
+-- left out only where no rows of the other items make all conjuncts hold
+pub record IsPartOf {X : Type 0} (like : List (Env X) → List (Env X) → Type 0) (items : List ℕ)
+    (conjuncts : List (Env X → Bool)) (found members : List (Env X)) : Type 0
   where
     pub stays : Env X → Bool
-    pub permutes : IsPermutation found (filter stays members)
+    pub permutes : like found (filter stays members)
     pub left_out : (h : Env X) → stays h ≡ false → (a : Env X) → Agree items h a
         → all_hold conjuncts a ≡ false
