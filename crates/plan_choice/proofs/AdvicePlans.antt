@@ -16,7 +16,8 @@ use Rattle.sql_meaning.specs.Offers.{IsPlannable}
 use Rattle.plan_choice.specs.AdviceLaws.{AdvicePlansMean, AdviceCostsNoMore, AreRising, IsUse}
 use Rattle.plan_choice.specs.AdviceLaws.{AreUses}
 use Rattle.plan_choice.specs.AdviceLaws.{NamesWhatPlansUse}
-use Rattle.sql_meaning.proofs.SameTables.{with_indexes, conversions}
+use Rattle.sql_meaning.proofs.SameTables.{conversions}
+use Rattle.sql_meaning.specs.Schemas.{with_indexes}
 use Rattle.plan_choice.proofs.ChosenCosts.{chosen_plans_cost_no_more}
 use Rattle.plan_choice.proofs.ChosenPlans.{chosen_plans_mean}
 use Rattle.plan_choice.proofs.SoundLevels.{numbers_below}

@@ -4,7 +4,7 @@ use Rattle.std.proofs.Common.{◌≡◌, ℕ, Bool, true, false, ◌||◌, List,
 use Rattle.std.proofs.Common.{Option, Some, None, refl, subst}
 use Rattle.list_laws.proofs.Lists.{all_append, all_flat_map, all_always, all_map}
 use Rattle.sql_meaning.specs.Schemas.{Schema}
-use Rattle.sql_meaning.specs.Choices.{Offer as Seek, ColumnTerms, rowid_offer, paths_of}
+use Rattle.sql_meaning.specs.Choices.{Seek, ColumnTerms, rowid_offer, paths_of}
 use Rattle.sql_meaning.specs.Fitting.{IsIndexOf, IsSeekOf, AreSeeksOf, FitsTable}
 use Rattle.sql_meaning.proofs.Fitting.{rowid_fits, seek_is_path}
 use Rattle.plan_choice.specs.Settings.{Setting, terms_for, table_for, indexes_on}

@@ -8,7 +8,7 @@ use Rattle.sql_meaning.specs.Statements.{Conjunct, has_number, FitsStatement, it
 use Rattle.sql_meaning.specs.Statements.{numbers_from}
 use Rattle.sql_meaning.specs.Fitting.{is_usable_on, IsIndexOf, IsSeekOf}
 use Rattle.sql_meaning.proofs.Fitting.{seek_fits as offered_fits, rowid_fits}
-use Rattle.sql_meaning.specs.Choices.{Offer as Seek, ColumnTerms, rowid_offer}
+use Rattle.sql_meaning.specs.Choices.{Seek, ColumnTerms, rowid_offer}
 use Rattle.sql_meaning.specs.Terms.{Term}
 use Rattle.sql_meaning.specs.UsedTerms.{IsTerm, IsBranchTerm}
 use Rattle.sql_meaning.specs.TermLists.{OrTerm, branch_terms, item_terms, ItemTerms}

@@ -9,7 +9,7 @@ use Rattle.sql_meaning.specs.Schemas.{Schema}
 use Rattle.sql_meaning.specs.Statements.{item_alias}
 use Rattle.sql_meaning.specs.UsedTerms.{Used, AllOf, AnyOf, BranchesCarry, PathCarries}
 use Rattle.sql_meaning.specs.Terms.{Term}
-use Rattle.sql_meaning.specs.Choices.{Offer as Seek}
+use Rattle.sql_meaning.specs.Choices.{Seek}
 use Rattle.sql_meaning.specs.Paths.{Path, TableScan, RowidEq, RowidRange, IndexScan, IndexSeek}
 use Rattle.sql_meaning.specs.Paths.{Union, Paths, Nowhere, Then}
 use Rattle.sql_meaning.proofs.Paths.{all_sort}

@@ -8,7 +8,7 @@ use Rattle.sql_meaning.specs.Statements.{Conjunct, SortKey, has_number, all_in, 
 use Rattle.sql_meaning.specs.Conjuncts.{first_at}
 use Rattle.sql_meaning.specs.UsedTerms.{Used, AllOf, AnyOf}
 use Rattle.sql_meaning.specs.OrderState.{columns_at, on_item}
-use Rattle.sql_meaning.specs.Choices.{Offer as Seek, ColumnTerms, rowid_offer, seek_offer}
+use Rattle.sql_meaning.specs.Choices.{Seek, ColumnTerms, rowid_offer, seek_offer}
 use Rattle.sql_meaning.specs.Choices.{consumed_of, paths_of, used_of}
 use Rattle.plan_choice.specs.Figures.{is_unordered}
 use Rattle.plan_choice.specs.Costs.{Cost, Size, size_of, thinned}

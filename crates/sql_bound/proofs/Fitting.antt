@@ -7,7 +7,8 @@ use Rattle.sql_meaning.specs.Statements.{Bound}
 use Rattle.sql_meaning.specs.Expressions.{BExpr, BExprs, Lit, Param, Column, Rowid, Plus, Collate}
 use Rattle.sql_meaning.specs.Expressions.{Cmp, OneOf, Like, IsNull, Not, All, Any, Nil, More}
 use Rattle.sql_meaning.proofs.SameTables.{conversions}
-use Rattle.sql_bound.specs.Fits.{Fits, IsSound, NamesExist, AllNamesExist, with_indexes}
+use Rattle.sql_bound.specs.Fits.{Fits, IsSound, NamesExist, AllNamesExist}
+use Rattle.sql_meaning.specs.Schemas.{with_indexes}
 use Rattle.sql_bound.specs.Fits.{FitsWithIndexes}
 use Rattle.schema_model.specs.Schemas.{with_index}
 use Rattle.schema_model.specs.PlainSchemas.{plain_schema}

@@ -78,9 +78,6 @@ pub record Fits (schema : Schema) (bound : Bound) (needs : List (List ℕ)) : Ty
   pub owners : OwnersAreLeft bound
   pub owned : AllByRecursion StaysLeft bound.conjuncts
 
-abbrev pub with_indexes : Schema → List Index → Schema
-with_indexes schema indexes = record { tables = schema.tables; indexes = indexes }
-
 -- a statement that fits a schema fits it with an index more
 abbrev pub FitsWithIndexes : Type 0
 FitsWithIndexes =

@@ -13,7 +13,7 @@ use Rattle.sql_meaning.specs.Expressions.{BExpr, Any, flat, BExprs, Nil, More}
 use Rattle.sql_meaning.specs.Schemas.{Schema}
 use Rattle.sql_meaning.specs.Rows.{Site}
 use Rattle.sql_meaning.specs.Terms.{Term, TermKind, part_of}
-use Rattle.sql_meaning.specs.Choices.{part_or, Offer, paths_of, used_of}
+use Rattle.sql_meaning.specs.Choices.{part_or, Seek, paths_of, used_of}
 use Rattle.sql_meaning.specs.Statements.{Bound, has_number, FitsStatement, item_alias, Conjunct}
 use Rattle.sql_meaning.specs.Statements.{table_of}
 use Rattle.sql_meaning.specs.Fitting.{IsSeekOf}
@@ -122,7 +122,7 @@ branch_terms_are schema bound c item number e =
     (branch_sites schema bound c item number (flat e) (all_sites schema bound item))
 
 pick_plain : (schema : Schema) (bound : Bound) (c : Conjunct) (placed : List ℕ) (item number : ℕ)
-    (e : BExpr) (o : Offer)
+    (e : BExpr) (o : Seek)
     → OffersBranch schema bound c placed item number e o
     → IsPlainOffer (IsBranchTerm schema bound c item (flat e)) schema
     (item_alias schema bound item) placed o
@@ -135,7 +135,7 @@ pick_plain schema bound c placed item number e o (inr (index, i, h)) =
     (branch_terms_are schema bound c item number e) h
 
 pick_fits : (schema : Schema) (bound : Bound) (c : Conjunct) (placed : List ℕ) (item number : ℕ)
-    (e : BExpr) (o : Offer)
+    (e : BExpr) (o : Seek)
     → OffersBranch schema bound c placed item number e o
     → IsSeekOf schema (table_of (slice_get bound.items item)) o.path
 pick_fits schema bound c placed item number e o (inl h) =
@@ -146,7 +146,7 @@ pick_fits schema bound c placed item number e o (inr (index, i, h)) =
     (branch_terms schema bound c item number e) index o i h
 
 picks_offers : (schema : Schema) (bound : Bound) (c : Conjunct) (placed : List ℕ) (item number : ℕ)
-    (es : BExprs) (os : List Offer)
+    (es : BExprs) (os : List Seek)
     → OffersBranches schema bound c placed item number es os
     → BranchOffers schema bound c placed item es os
 picks_offers schema bound c placed item number Nil [] h = tt
@@ -160,7 +160,7 @@ picks_offers schema bound c placed item number (More e es) (o ∷ os) h = (
 
 -- so each union of chosen seeks is an offer
 pub union_of_terms : (schema : Schema) (bound : Bound) (placed : List ℕ) (item : ℕ) (turned : Bool)
-    (number : ℕ) (c : Conjunct) (es : BExprs) (os : List Offer)
+    (number : ℕ) (c : Conjunct) (es : BExprs) (os : List Seek)
     → FitsStatement schema bound → has_number item placed ≡ false
     → slice_get bound.conjuncts number ≡ Some c → may_serve bound item c ≡ true → c.expr ≡ Any es
     → OffersBranches schema bound c placed item number es os

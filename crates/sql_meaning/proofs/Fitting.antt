@@ -7,7 +7,7 @@ use Rattle.sql_meaning.specs.Paths.{Edge, Path, TableScan, RowidEq, RowidRange, 
 use Rattle.sql_meaning.specs.Paths.{IndexSeek, Union, is_union}
 use Rattle.sql_meaning.specs.OrderState.{columns_at}
 use Rattle.sql_meaning.specs.Fitting.{IsIndexOf, HasColumns, IsSeekOf, FitsTable}
-use Rattle.sql_meaning.specs.Choices.{Offer, ColumnTerms, Taken, seek_terms, take_equal}
+use Rattle.sql_meaning.specs.Choices.{Seek, ColumnTerms, Taken, seek_terms, take_equal}
 use Rattle.sql_meaning.specs.Choices.{take_bounds, edge_of, seek_of, seek_offer, rowid_offer}
 use Rattle.sql_meaning.specs.Choices.{rowid_equal, rowid_range}
 
@@ -39,18 +39,18 @@ takes placed alias columns (c ∷ cs) =
     equal_case (length cs) _ (seek_terms placed alias columns cs) _ _
     (takes placed alias columns cs)
 
-seek_case : (schema : Schema) (table index : ℕ) (taken : Taken) (ts : List Term) (k : Offer)
+seek_case : (schema : Schema) (table index : ℕ) (taken : Taken) (ts : List Term) (k : Seek)
     → IsIndexOf schema table index
     → TakesOf (length (columns_at (slice_get schema.indexes index))) taken
     → seek_of index taken ts ≡ Some k → IsSeekOf schema table k.path
 seek_case schema table index taken [] k h t e = absurd (cc)
 seek_case schema table index taken (u ∷ us) k h t e =
     let is : record { path = IndexSeek index taken.eqs taken.low taken.high; used = u ∷ us } ≡ k =
-    cc in subst (λ (q : Offer). IsSeekOf schema table q.path) is (h, t)
+    cc in subst (λ (q : Seek). IsSeekOf schema table q.path) is (h, t)
 
 -- a seek in an index of the table
 pub seek_fits : (schema : Schema) (table : ℕ) (placed : List ℕ) (alias : Option ℕ)
-    (columns : List ColumnTerms) (index : ℕ) (k : Offer)
+    (columns : List ColumnTerms) (index : ℕ) (k : Seek)
     → IsIndexOf schema table index
     → seek_offer placed alias columns index (columns_at (slice_get schema.indexes index)) ≡ Some k
     → IsSeekOf schema table k.path
@@ -60,27 +60,27 @@ seek_fits schema table placed alias columns index k h e =
     (seek_terms placed alias columns cs).used k h (takes placed alias columns cs) e
 
 -- the seek, where there is one
-abbrev IsSeekIn : Schema → ℕ → Option Offer → Type 0
+abbrev IsSeekIn : Schema → ℕ → Option Seek → Type 0
 IsSeekIn schema table None = Unit {0}
 IsSeekIn schema table (Some k) = IsSeekOf schema table k.path
 
-range_case : (schema : Schema) (table : ℕ) (low high : Option Term) (k : Offer)
+range_case : (schema : Schema) (table : ℕ) (low high : Option Term) (k : Seek)
     → rowid_range low high ≡ Some k → IsSeekOf schema table k.path
 range_case schema table None None k e = absurd (cc)
 range_case schema table (Some l) high k e =
-    subst (λ (o : Option Offer). IsSeekIn schema table o) e tt
+    subst (λ (o : Option Seek). IsSeekIn schema table o) e tt
 range_case schema table None (Some h) k e =
-    subst (λ (o : Option Offer). IsSeekIn schema table o) e tt
+    subst (λ (o : Option Seek). IsSeekIn schema table o) e tt
 
-rowid_case : (schema : Schema) (table : ℕ) (o : Option Term) (low high : Option Term) (k : Offer)
+rowid_case : (schema : Schema) (table : ℕ) (o : Option Term) (low high : Option Term) (k : Seek)
     → rowid_equal o (rowid_range low high) ≡ Some k → IsSeekOf schema table k.path
 rowid_case schema table (Some t) low high k e =
-    subst (λ (o : Option Offer). IsSeekIn schema table o) e tt
+    subst (λ (o : Option Seek). IsSeekIn schema table o) e tt
 rowid_case schema table None low high k e = range_case schema table low high k e
 
 -- a seek by rowid
 pub rowid_fits : (schema : Schema) (table : ℕ) (placed : List ℕ) (columns : List ColumnTerms)
-    (k : Offer)
+    (k : Seek)
     → rowid_offer placed columns ≡ Some k → IsSeekOf schema table k.path
 rowid_fits schema table placed columns k e = rowid_case schema table _ _ _ k e
 

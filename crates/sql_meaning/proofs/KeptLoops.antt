@@ -1,5 +1,6 @@
 -- Each loop whose path is an offer keeps its word.
 use Rattle.std.specs.List.{AllByRecursion, slice_get, filter}
+use Rattle.std.specs.List.Sorted.{IsPermutation}
 use Rattle.std.proofs.Common.{◌≡◌, ℕ, Bool, cond, List, [], ◌∷◌, refl, ap, true, false, not, ◌&&◌}
 use Rattle.std.proofs.Common.{Option, Some, None, ◌∙◌, subst, sym, zero-add, ◌<◌, map, length}
 use Rattle.std.proofs.lemmas.List.Elements.{filter_agree}
@@ -192,7 +193,8 @@ pub are_steps : (schema : Schema) (database : Database) (bound : Bound) (params 
     (consumed placed : List ℕ) (loops : List Loop) (used : List Used)
     → IsDatabase schema bound database → OwnersAreLeft bound
     → AreOffers schema bound placed loops used → AllByRecursion (Ours bound consumed) loops
-    → AreSteps (choices database bound params) placed (asked_by schema bound params loops used)
+    → AreSteps IsPermutation (choices database bound params) placed
+    (asked_by schema bound params loops used)
     (steps_of schema database bound params consumed placed loops)
 are_steps schema database bound params consumed placed [] [] valid owners o ours = tt
 are_steps schema database bound params consumed placed [] (u ∷ us) valid owners o ours = absurd o

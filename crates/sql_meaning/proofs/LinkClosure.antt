@@ -296,7 +296,8 @@ pub lists_have_the_linked_columns : ListsHaveTheLinkedColumns
 lists_have_the_linked_columns = λ schema items es c.
     let ps = link_pairs schema items es in
     let others = filter (λ x. not (same_ref x c)) (visited c ps) in (
-      RisesStrictly-keep_first ref_cmp (sort_by ref_cmp others) [] (Ascends-sort_by ref_total others),
+      RisesStrictly-keep_first ref_cmp (sort_by ref_cmp others) []
+          (Ascends-sort_by ref_total others),
       linked_are schema items es c,
       λ d l other.
           let here : has_ref c (visited c ps) ≡ true =

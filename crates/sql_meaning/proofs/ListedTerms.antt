@@ -19,7 +19,7 @@ use Rattle.sql_meaning.specs.Items.{Item, own_column}
 use Rattle.sql_meaning.specs.Rows.{Site}
 use Rattle.sql_meaning.specs.Terms.{Term, part_of, TermKind, Serves, ComparisonServes, Equals}
 use Rattle.sql_meaning.specs.Terms.{Within, IsNothing, Low, High}
-use Rattle.sql_meaning.specs.Choices.{part_or, edge_or, Offer, seek_offer, consumed_of, rowid_offer}
+use Rattle.sql_meaning.specs.Choices.{part_or, edge_or, Seek, seek_offer, consumed_of, rowid_offer}
 use Rattle.sql_meaning.specs.Statements.{is_empty, Bound, exprs_of, has_number, FitsStatement}
 use Rattle.sql_meaning.specs.Statements.{item_alias, Conjunct, table_of}
 use Rattle.sql_meaning.specs.Fitting.{IsIndexOf}
@@ -233,7 +233,7 @@ item_terms_are schema bound item =
 
 -- so the seeks that are chosen of the lists are offers
 pub seek_of_terms : (schema : Schema) (bound : Bound) (placed : List ℕ) (item index : ℕ)
-    (turned : Bool) (o : Offer)
+    (turned : Bool) (o : Seek)
     → FitsStatement schema bound → has_number item placed ≡ false
     → IsIndexOf schema (table_of (slice_get bound.items item)) index
     → seek_offer placed (item_alias schema bound item) (item_terms schema bound item) index
@@ -249,7 +249,7 @@ seek_of_terms schema bound placed item index turned o fits un i h =
     (item_terms schema bound item) index o (item_terms_are schema bound item) h)
 
 pub rowid_of_terms : (schema : Schema) (bound : Bound) (placed : List ℕ) (item : ℕ) (turned : Bool)
-    (o : Offer)
+    (o : Seek)
     → FitsStatement schema bound → has_number item placed ≡ false
     → rowid_offer placed (item_terms schema bound item) ≡ Some o
     → IsOffer schema bound placed

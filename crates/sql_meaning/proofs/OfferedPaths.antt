@@ -7,7 +7,7 @@ use Rattle.sql_meaning.specs.Paths.{TableScan, IndexScan, Union}
 use Rattle.sql_meaning.specs.Terms.{Term, part_of, MayUse, Carries, LowFrom, HighFrom, FormCarries}
 use Rattle.sql_meaning.specs.Terms.{Low, High}
 use Rattle.sql_meaning.specs.Choices.{ColumnTerms, part_or, first_that, terms_at, Taken}
-use Rattle.sql_meaning.specs.Choices.{edge_of, one_or_none, seek_terms, consumed_of, Offer, seek_of}
+use Rattle.sql_meaning.specs.Choices.{edge_of, one_or_none, seek_terms, consumed_of, Seek, seek_of}
 use Rattle.sql_meaning.specs.Choices.{seek_offer, rowid_range, rowid_equal, rowid_offer, paths_of}
 use Rattle.sql_meaning.specs.Choices.{used_of}
 use Rattle.sql_meaning.specs.Rows.{Site, AtRowid}
@@ -32,7 +32,7 @@ use Rattle.sql_meaning.proofs.Choices.{consumed_terms}
 -- of a seek: its path carries its used terms, which are usable and the item's (or
 -- the branch's)
 pub record IsPlainOffer (P : Term → Type 0) (schema : Schema) (alias : Option ℕ) (placed : List ℕ)
-    (o : Offer) : Type 0
+    (o : Seek) : Type 0
   where
     pub carries : FormCarries alias (form_of schema o.path) o.used
     pub usable : AreUsable placed o.used
@@ -41,7 +41,7 @@ pub record IsPlainOffer (P : Term → Type 0) (schema : Schema) (alias : Option 
 seek_case : (P : Term → Type 0) (schema : Schema) (alias : Option ℕ) (placed : List ℕ) (index : ℕ)
     (taken : Taken)
     → IsTaken P placed alias (sort_columns schema index) taken → (ts : List Term) → taken.used ≡ ts
-    → (o : Offer) → seek_of index taken ts ≡ Some o → IsPlainOffer P schema alias placed o
+    → (o : Seek) → seek_of index taken ts ≡ Some o → IsPlainOffer P schema alias placed o
 seek_case P schema alias placed index taken t [] e o f = absurd (cc)
 seek_case P schema alias placed index taken t (u ∷ us) e o f =
     let is : record { path = IndexSeek index taken.eqs taken.low taken.high; used = u ∷ us } ≡ o =
@@ -58,7 +58,7 @@ seek_case P schema alias placed index taken t (u ∷ us) e o f =
 
 -- a seek by an index
 pub seek_plain : (P : Term → Type 0) (schema : Schema) (alias : Option ℕ) (placed : List ℕ)
-    (columns : List ColumnTerms) (index : ℕ) (o : Offer)
+    (columns : List ColumnTerms) (index : ℕ) (o : Seek)
     → AllByRecursion (AreColumnTerms P) columns
     → seek_offer placed alias columns index (columns_at (slice_get schema.indexes index)) ≡ Some o
     → IsPlainOffer P schema alias placed o
@@ -78,7 +78,7 @@ rowid_may placed alias t at f = (inr (at, tt), f)
 range_plain : (P : Term → Type 0) (schema : Schema) (alias : Option ℕ) (placed : List ℕ)
     (low high : Option Term)
     → IsBound (LowFrom alias by_rowid) P placed low
-    → IsBound (HighFrom alias by_rowid) P placed high → (o : Offer)
+    → IsBound (HighFrom alias by_rowid) P placed high → (o : Seek)
     → rowid_range low high ≡ Some o → IsPlainOffer P schema alias placed o
 range_plain P schema alias placed None None l h o f = absurd (cc)
 range_plain P schema alias placed (Some t) high l h o f =
@@ -106,8 +106,8 @@ equal_plain : (P : Term → Type 0) (schema : Schema) (alias : Option ℕ) (plac
     (column : Site)
     → column ≡ AtRowid → (ts : List Term)
     → AllByRecursion (λ t. (t.column ≡ column) × (part_of t.kind ≡ Some (part_or t.kind)) × P t) ts
-    → (range : Option Offer) → ((o : Offer) → range ≡ Some o → IsPlainOffer P schema alias placed o)
-    → (equal : Option Term) → first_that (is_usable placed) ts ≡ equal → (o : Offer)
+    → (range : Option Seek) → ((o : Seek) → range ≡ Some o → IsPlainOffer P schema alias placed o)
+    → (equal : Option Term) → first_that (is_usable placed) ts ≡ equal → (o : Seek)
     → rowid_equal equal range ≡ Some o → IsPlainOffer P schema alias placed o
 equal_plain P schema alias placed column is ts h range r None f o g = r o g
 equal_plain P schema alias placed column is ts h range r (Some t) f o g =
@@ -118,7 +118,7 @@ equal_plain P schema alias placed column is ts h range r (Some t) f o g =
     (record { carries = (m.0, q.0.1, refl); usable = (m.1, tt); terms = (q.0.2, tt) })
 
 pub rowid_plain : (P : Term → Type 0) (schema : Schema) (alias : Option ℕ) (placed : List ℕ)
-    (columns : List ColumnTerms) (o : Offer)
+    (columns : List ColumnTerms) (o : Seek)
     → AllByRecursion (AreColumnTerms P) columns → rowid_offer placed columns ≡ Some o
     → IsPlainOffer P schema alias placed o
 rowid_plain P schema alias placed columns o h f =
@@ -143,7 +143,7 @@ path_carries schema alias (IndexSeek index eqs low high) ts u c = c
 path_carries schema alias (Union ps) ts u c = absurd (cc)
 
 -- seeks are offers as the laws ask them
-pub plain_offer : (schema : Schema) (bound : Bound) (placed : List ℕ) (item : ℕ) (o : Offer)
+pub plain_offer : (schema : Schema) (bound : Bound) (placed : List ℕ) (item : ℕ) (o : Seek)
     (back : Bool)
     → FitsStatement schema bound → has_number item placed ≡ false
     → IsSeekOf schema (table_of (slice_get bound.items item)) o.path
@@ -201,7 +201,7 @@ index_scan_offer schema bound placed item index back fits un h =
     }
 
 -- a union has for each branch an offer of its own terms
-abbrev pub BranchOffers : Schema → Bound → Conjunct → List ℕ → ℕ → BExprs → List Offer → Type 0
+abbrev pub BranchOffers : Schema → Bound → Conjunct → List ℕ → ℕ → BExprs → List Seek → Type 0
 BranchOffers schema bound c placed item Nil [] = Unit {0}
 BranchOffers schema bound c placed item Nil (o ∷ os) = ⊥
 BranchOffers schema bound c placed item (More e es) [] = ⊥
@@ -212,7 +212,7 @@ BranchOffers schema bound c placed item (More e es) (o ∷ os) =
     × BranchOffers schema bound c placed item es os
 
 branches_carry : (schema : Schema) (bound : Bound) (c : Conjunct) (placed : List ℕ) (item : ℕ)
-    (es : BExprs) (os : List Offer)
+    (es : BExprs) (os : List Seek)
     → BranchOffers schema bound c placed item es os
     → BranchesCarry schema (item_alias schema bound item) (paths_of os) (used_of os)
 branches_carry schema bound c placed item Nil [] h = tt
@@ -225,7 +225,7 @@ branches_carry schema bound c placed item (More e es) (o ∷ os) h = (
 )
 
 branches_fit : (schema : Schema) (bound : Bound) (c : Conjunct) (placed : List ℕ) (item : ℕ)
-    (es : BExprs) (os : List Offer)
+    (es : BExprs) (os : List Seek)
     → BranchOffers schema bound c placed item es os
     → AreSeeksOf schema (table_of (slice_get bound.items item)) (paths_of os)
 branches_fit schema bound c placed item Nil [] h = tt
@@ -235,7 +235,7 @@ branches_fit schema bound c placed item (More e es) (o ∷ os) h =
     (h.0, branches_fit schema bound c placed item es os h.2)
 
 branches_placed : (schema : Schema) (bound : Bound) (c : Conjunct) (placed : List ℕ) (item : ℕ)
-    (es : BExprs) (os : List Offer)
+    (es : BExprs) (os : List Seek)
     → BranchOffers schema bound c placed item es os
     → AllByRecursion (AreUsable placed) (used_of os)
 branches_placed schema bound c placed item Nil [] h = tt
@@ -245,7 +245,7 @@ branches_placed schema bound c placed item (More e es) (o ∷ os) h =
     (h.1.usable, branches_placed schema bound c placed item es os h.2)
 
 branches_terms : (schema : Schema) (bound : Bound) (c : Conjunct) (placed : List ℕ) (item : ℕ)
-    (es : BExprs) (os : List Offer)
+    (es : BExprs) (os : List Seek)
     → BranchOffers schema bound c placed item es os
     → AreBranchTerms schema bound c item es (used_of os)
 branches_terms schema bound c placed item Nil [] h = tt
@@ -255,7 +255,7 @@ branches_terms schema bound c placed item (More e es) (o ∷ os) h =
     (h.1.terms, branches_terms schema bound c placed item es os h.2)
 
 pub union_offer : (schema : Schema) (bound : Bound) (placed : List ℕ) (item : ℕ) (back : Bool)
-    (number : ℕ) (c : Conjunct) (es : BExprs) (os : List Offer)
+    (number : ℕ) (c : Conjunct) (es : BExprs) (os : List Seek)
     → FitsStatement schema bound → has_number item placed ≡ false
     → slice_get bound.conjuncts number ≡ Some c → may_serve bound item c ≡ true → c.expr ≡ Any es
     → BranchOffers schema bound c placed item es os

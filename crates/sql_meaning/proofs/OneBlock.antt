@@ -1,11 +1,12 @@
 -- What the loops of one block find, and what they leave out.
 use Rattle.std.specs.List.{AllByRecursion, filter, flat_map}
+use Rattle.std.specs.List.Sorted.{IsPermutation}
 use Rattle.std.proofs.Common.{◌≡◌, ℕ, false, List, ◌∙◌, [], true, Some, sym, subst, slice_get, ◌∷◌}
 use Rattle.std.proofs.Common.{Bool, suc, cond, not, ◌&&◌, ◌||◌, refl, ◌++◌, ◌≢◌, ap, zero-add}
 use Rattle.list_laws.specs.Nest.{kept, nested, product, Distinct, Inside, Apart, Rearranges}
 use Rattle.list_laws.specs.Nest.{IsPartOf}
 use Rattle.list_laws.proofs.Bools.{not_true, cond_same, and_left, and_right, or_cases}
-use Rattle.list_laws.proofs.Nests.{block_law}
+use Rattle.list_laws.proofs.Nests.{block_permutes}
 use Rattle.sql_meaning.specs.Values.{Value}
 use Rattle.sql_meaning.specs.Rows.{Assignment}
 use Rattle.sql_meaning.specs.Schemas.{Schema, Database}
@@ -131,7 +132,7 @@ pub block_of_loops : (schema : Schema) (database : Database) (bound : Bound)
     → ConsumesOwn bound consumed left (loop_items loops) loops
     → Rearranges (λ i. not (is_left bound i)) (loop_items loops) order → Distinct order
     → Apart left order → AllByRecursion (Inside order) G
-    → IsPartOf (order ++ left) (chosen_hold is_common params bound.conjuncts ∷ [])
+    → IsPartOf IsPermutation (order ++ left) (chosen_hold is_common params bound.conjuncts ∷ [])
     (flat_map
     (nested (steps_of schema database bound params consumed left loops)) G)
     (flat_map
@@ -139,7 +140,7 @@ pub block_of_loops : (schema : Schema) (database : Database) (bound : Bound)
     (product (choices database bound params) order g)) G)
 block_of_loops schema database bound params consumed left loops used order G valid owners some
     offered plain own re distinct apart inside =
-    block_law (choices database bound params)
+    block_permutes (choices database bound params)
     (λ i h env a. free_choices database bound params i (is_left bound i) h _ _ _)
     (chosen_hold is_common params bound.conjuncts ∷ [])
     (block_holds bound params left (loop_items loops)) (asked_by schema bound params loops used)

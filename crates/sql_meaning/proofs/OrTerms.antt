@@ -1,6 +1,7 @@
 -- The OR terms of an item are of its OR conjuncts.
 use Rattle.std.specs.List.{AllByRecursion}
-use Rattle.std.proofs.Common.{◌≡◌, ◌≢◌, ℕ, suc, ◌+◌, Bool, true, false, ◌==◌, not, cond, List, [], ◌∷◌}
+use Rattle.std.proofs.Common.{◌≡◌, ◌≢◌, ℕ, suc, ◌+◌, Bool, true, false, ◌==◌, not, cond, List, []}
+use Rattle.std.proofs.Common.{◌∷◌}
 use Rattle.std.proofs.Common.{Option, Some, None, refl, ◌∙◌, ap, subst, slice_get, arith, length}
 use Rattle.std.proofs.Common.{add-zero}
 use Rattle.list_laws.proofs.Lists.{all_append}
@@ -55,7 +56,14 @@ some_branches : (schema : Schema) (bound : Bound) (item number : ℕ) (c : Conju
     → AllByRecursion (IsListedOr schema bound item) (or_term number o)
 some_branches schema bound item number c es is allowed any None e = tt
 some_branches schema bound item number c es is allowed any (Some bs) e = (
-  record { conjunct = c; branches = es; is = is; allowed = allowed; any = any; terms = are_terms schema bound c item number es bs e },
+  record {
+    conjunct = c;
+    branches = es;
+    is = is;
+    allowed = allowed;
+    any = any;
+    terms = are_terms schema bound c item number es bs e;
+  },
   tt,
 )
 

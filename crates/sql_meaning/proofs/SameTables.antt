@@ -2,14 +2,11 @@
 -- indexes.
 use Rattle.std.proofs.Common.{◌≡◌, None, List, refl, ap, ap₂, ◌∙◌}
 use Rattle.sql_meaning.specs.Conversions.{side_conversion}
-use Rattle.sql_meaning.specs.Schemas.{Schema, Index}
+use Rattle.sql_meaning.specs.Schemas.{Schema, Index, with_indexes}
 use Rattle.sql_meaning.specs.Items.{Item, FitsExpr, FitsExprs, expr_affinity}
 use Rattle.sql_meaning.specs.Expressions.{BExpr, BExprs, Lit, Param, Column, Rowid, Plus, Collate}
 use Rattle.sql_meaning.specs.Expressions.{Cmp, OneOf, IsNull, Like, Not, All, Any, Nil}
 use Rattle.sql_meaning.specs.Expressions.{More}
-
-abbrev pub with_indexes : Schema → List Index → Schema
-with_indexes schema indexes = record { tables = schema.tables; indexes = indexes }
 
 affinity : (schema : Schema) (indexes : List Index) (items : List Item) (e : BExpr)
     → expr_affinity schema items e ≡ expr_affinity (with_indexes schema indexes) items e

@@ -10,7 +10,7 @@ use Rattle.sql_meaning.specs.Conjuncts.{may_serve}
 use Rattle.sql_meaning.specs.UsedTerms.{AllOf, AnyOf}
 use Rattle.sql_meaning.specs.Offers.{IsOffer}
 use Rattle.sql_meaning.specs.OrderState.{columns_at}
-use Rattle.sql_meaning.specs.Choices.{Offer, rowid_offer, seek_offer, consumed_of, paths_of}
+use Rattle.sql_meaning.specs.Choices.{Seek, rowid_offer, seek_offer, consumed_of, paths_of}
 use Rattle.sql_meaning.specs.Choices.{used_of}
 use Rattle.sql_meaning.specs.TermLists.{item_terms, OffersBranches}
 
@@ -31,7 +31,7 @@ IndexScansAreOffers =
 
 abbrev pub RowidSeeksAreOffers : Type 0
 RowidSeeksAreOffers =
-    (schema : Schema) (bound : Bound) (placed : List ℕ) (item : ℕ) (reverse : Bool) (o : Offer)
+    (schema : Schema) (bound : Bound) (placed : List ℕ) (item : ℕ) (reverse : Bool) (o : Seek)
     → FitsStatement schema bound → has_number item placed ≡ false
     → rowid_offer placed (item_terms schema bound item) ≡ Some o
     → IsOffer schema bound placed
@@ -41,7 +41,7 @@ RowidSeeksAreOffers =
 abbrev pub IndexSeeksAreOffers : Type 0
 IndexSeeksAreOffers =
     (schema : Schema) (bound : Bound) (placed : List ℕ) (item index : ℕ) (reverse : Bool)
-    (o : Offer)
+    (o : Seek)
     → FitsStatement schema bound → has_number item placed ≡ false
     → IsIndexOf schema (table_of (slice_get bound.items item)) index
     → seek_offer placed (item_alias schema bound item) (item_terms schema bound item) index
@@ -53,7 +53,7 @@ IndexSeeksAreOffers =
 abbrev pub UnionsAreOffers : Type 0
 UnionsAreOffers =
     (schema : Schema) (bound : Bound) (placed : List ℕ) (item : ℕ) (reverse : Bool) (number : ℕ)
-    (c : Conjunct) (branches : BExprs) (os : List Offer)
+    (c : Conjunct) (branches : BExprs) (os : List Seek)
     → FitsStatement schema bound → has_number item placed ≡ false
     → slice_get bound.conjuncts number ≡ Some c → may_serve bound item c ≡ true
     → c.expr ≡ Any branches → OffersBranches schema bound c placed item number branches os

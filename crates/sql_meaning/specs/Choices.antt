@@ -108,11 +108,11 @@ seek_terms placed alias columns (c ∷ cs) =
     (first_that (fits_column placed alias c) (terms_at (column_site alias c.column) columns).highs))
 
 -- a path with the terms that it uses
-pub record Offer : Type 0 where
+pub record Seek : Type 0 where
   pub path : Path
   pub used : List Term
 
-abbrev pub rowid_range : Option Term → Option Term → Option Offer
+abbrev pub rowid_range : Option Term → Option Term → Option Seek
 rowid_range None None = None
 rowid_range (Some l) high =
     Some
@@ -125,25 +125,25 @@ rowid_range None (Some h) =
     (record
     { path = RowidRange None (edge_of (Some h)); used = one_or_none None ++ one_or_none (Some h) })
 
-abbrev pub rowid_equal : Option Term → Option Offer → Option Offer
+abbrev pub rowid_equal : Option Term → Option Seek → Option Seek
 rowid_equal (Some t) range = Some (record { path = RowidEq (part_or t.kind); used = t ∷ [] })
 rowid_equal None range = range
 
 -- a seek by rowid: by the first equality term of the rowid that may be used, else by its first
 -- bounds
-abbrev pub rowid_offer : List ℕ → List ColumnTerms → Option Offer
+abbrev pub rowid_offer : List ℕ → List ColumnTerms → Option Seek
 rowid_offer placed columns =
     rowid_equal (first_that (is_usable placed) (terms_at AtRowid columns).equals)
     (rowid_range (first_that (is_usable placed) (terms_at AtRowid columns).lows)
     (first_that (is_usable placed) (terms_at AtRowid columns).highs))
 
 -- a seek by index, which needs a term at least
-abbrev pub seek_of : ℕ → Taken → List Term → Option Offer
+abbrev pub seek_of : ℕ → Taken → List Term → Option Seek
 seek_of index taken [] = None
 seek_of index taken (t ∷ ts) =
     Some (record { path = IndexSeek index taken.eqs taken.low taken.high; used = t ∷ ts })
 
-abbrev pub seek_offer : List ℕ → Option ℕ → List ColumnTerms → ℕ → List IndexColumn → Option Offer
+abbrev pub seek_offer : List ℕ → Option ℕ → List ColumnTerms → ℕ → List IndexColumn → Option Seek
 seek_offer placed alias columns index cs =
     seek_of index (seek_terms placed alias columns cs) (seek_terms placed alias columns cs).used
 
@@ -157,9 +157,9 @@ consumed_of ts =
     keep_first (eq_by_cmp nat_cmp) [] (sort_by nat_cmp (flat_map (λ t. number_list t.conjunct) ts))
 
 -- a union of one offer for each branch
-abbrev pub paths_of : List Offer → Paths
+abbrev pub paths_of : List Seek → Paths
 paths_of [] = Nowhere
 paths_of (o ∷ os) = Then o.path (paths_of os)
 
-abbrev pub used_of : List Offer → List (List Term)
+abbrev pub used_of : List Seek → List (List Term)
 used_of os = map (λ o. o.used) os

@@ -1,8 +1,8 @@
 -- In reading order. A reader must believe all that `Means` speaks of: values and expressions up to
 -- Evaluation, Schemas, Items and IndexLists, Walks and Paths, Statements, Conjuncts, Plans, Orders
 -- and Asked. Terms, Links, LikeTerms, UsedTerms, OrderState, Fitting and Offers say for which plans
--- `Means` is proved; Choices, Serving and TermLists list terms and choose among them, and laws tie them to
--- the former.
+-- `Means` is proved; Choices, Serving and TermLists list terms and choose among them, and laws tie
+-- them to the former.
 -- The laws are the files whose names end in Laws.
 -- A definition is an `abbrev`, so that examples compute and proofs open it unasked. `Means` alone
 -- is `unfoldable`: those above hand it on whole, and open it by name where they read it.

@@ -57,8 +57,8 @@ pub record IsPlannable (schema : Schema) (bound : Bound) : Type 0 where
       (λ c. all_in (names c.expr) (numbers_from 0 (length bound.items)) ≡ true) bound.conjuncts
   pub owners : OwnersAreLeft bound
 
--- a plan fits a schema where its statement does; each item has one loop; each path fits the table of
--- its item, by keys of earlier loops; and what is consumed are conjuncts
+-- a plan fits a schema where its statement does; each item has one loop; each path fits the table
+-- of its item, by keys of earlier loops; and what is consumed are conjuncts
 pub record PlanFits (schema : Schema) (plan : Plan) : Type 0 where
   pub statement : FitsStatement schema plan.bound
   pub once : IsPermutation (loop_items plan.loops) (numbers_from 0 (length plan.bound.items))

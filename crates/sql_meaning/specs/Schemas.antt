@@ -31,6 +31,10 @@ pub record Schema : Type 0 where
   pub tables : List Table
   pub indexes : List Index
 
+-- the same tables with other indexes
+abbrev pub with_indexes : Schema → List Index → Schema
+with_indexes schema indexes = record { tables = schema.tables; indexes = indexes }
+
 -- a column that isn't there has no affinity and compares as bytes
 abbrev pub column_or : Option TableColumn → TableColumn
 column_or None = record { affinity = BlobAffinity; collation = Binary }

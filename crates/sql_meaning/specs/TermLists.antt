@@ -25,7 +25,7 @@ use Rattle.sql_meaning.specs.OrderState.{columns_at}
 use Rattle.sql_meaning.specs.Fitting.{IsIndexOf}
 use Rattle.sql_meaning.specs.Links.{affinity_class}
 use Rattle.sql_meaning.specs.LikeTerms.{like_terms}
-use Rattle.sql_meaning.specs.Choices.{ColumnTerms, Offer, rowid_offer, seek_offer}
+use Rattle.sql_meaning.specs.Choices.{ColumnTerms, Seek, rowid_offer, seek_offer}
 
 abbrev pub same_ref : ColumnRef → ColumnRef → Bool
 same_ref c d = (c.item == d.item) && same_site c.site d.site
@@ -285,7 +285,7 @@ abbrev pub terms_of : Schema → Bound → List ItemTerms
 terms_of schema bound = map (terms_of_item schema bound) (numbers_from 0 (length bound.items))
 
 -- the offer is a seek with the terms of this branch alone: by rowid, or by an index of the table
-abbrev pub OffersBranch : Schema → Bound → Conjunct → List ℕ → ℕ → ℕ → BExpr → Offer → Type 0
+abbrev pub OffersBranch : Schema → Bound → Conjunct → List ℕ → ℕ → ℕ → BExpr → Seek → Type 0
 OffersBranch schema bound c placed item number e o =
     (rowid_offer placed (branch_terms schema bound c item number e) ≡ Some o)
     ⊎ ((index : ℕ) × IsIndexOf schema (table_of (slice_get bound.items item)) index
@@ -294,7 +294,7 @@ OffersBranch schema bound c placed item number e o =
     (columns_at (slice_get schema.indexes index)) ≡ Some o))
 
 -- an offer for each branch of an OR
-abbrev pub OffersBranches : Schema → Bound → Conjunct → List ℕ → ℕ → ℕ → BExprs → List Offer
+abbrev pub OffersBranches : Schema → Bound → Conjunct → List ℕ → ℕ → ℕ → BExprs → List Seek
     → Type 0
 OffersBranches schema bound c placed item number Nil [] = Unit {0}
 OffersBranches schema bound c placed item number Nil (o ∷ os) = ⊥

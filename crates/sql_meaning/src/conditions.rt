@@ -10,8 +10,8 @@ pub fn values_depend_on_named_items()
     ensures { ValuesDependOnNamedItems }
 {}
 
-/// Nor does the value depend on how an assignment holds the values of these items' columns: a missing
-/// row is as good as one of NULLs.
+/// Nor does the value depend on how an assignment holds the values of these items' columns: a
+/// missing row is as good as one of NULLs.
 pub fn values_depend_on_cells()
     ensures { ValuesDependOnCells }
 {}

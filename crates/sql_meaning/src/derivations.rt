@@ -26,8 +26,8 @@ pub fn derived_terms_hold()
     ensures { DerivedTermsHold }
 {}
 
-/// Each OR term that is listed for an item is of an OR conjunct that may serve it, and lists for each
-/// branch of this OR the terms of that branch, of which there are some.
+/// Each OR term that is listed for an item is of an OR conjunct that may serve it, and lists for
+/// each branch of this OR the terms of that branch, of which there are some.
 pub fn or_terms_are_of_conjuncts()
     ensures { OrTermsAreOfConjuncts }
 {}
