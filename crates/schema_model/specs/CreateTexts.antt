@@ -29,8 +29,11 @@ abbrev pub doubled : List ℕ → List ℕ
 doubled [] = []
 doubled (b ∷ bs) = (if b == 34 then 34 ∷ 34 ∷ [] else b ∷ []) ++ doubled bs
 
+abbrev pub quoted : List ℕ → List ℕ
+quoted name = 34 ∷ [] ++ doubled name ++ 34 ∷ []
+
 abbrev pub printed_name : List ℕ → List ℕ
-printed_name name = if is_plain_name name then name else 34 ∷ [] ++ doubled name ++ 34 ∷ []
+printed_name name = if is_plain_name name then name else quoted name
 
 abbrev pub collation_name : Collation → List ℕ
 collation_name Binary = codes "BINARY"

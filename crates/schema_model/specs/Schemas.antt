@@ -41,6 +41,9 @@ found_table s name =
     found_or (has_name name (unread_names s.unread))
     (position (is_name name) (table_names s.tables))
 
+abbrev pub found_index : Schema → List ℕ → Option ℕ
+found_index s name = position (is_name name) (index_names s.indexes)
+
 abbrev pub found_column : Table → List ℕ → Option ℕ
 found_column table name = position (has_column_name name) table.columns
 

@@ -57,9 +57,7 @@ impl Columns {
     {
         let key = folded_key(self.alloc, column.name.as_slice())?;
         let place = self.held.as_slice().len();
-        let Ok(()) = self.held.push(column) else {
-            return Err(Memory);
-        };
+        self.held.push(column)?;
         if self.places.contains_key(key.as_slice()) {
             return Ok(());
         }

@@ -1,6 +1,7 @@
 //! Look-ups by name. The name that is looked for has its letters made lower.
 ghost use Rattle.std.specs.Prelude.{◌≡◌, ◌≤◌, length};
 ghost use Rattle.schema_model.specs.Schemas.{column_limit, is_taken, found_table, found_column};
+ghost use Rattle.schema_model.specs.Schemas.{found_index};
 
 use crate::schema::Schema;
 use crate::tables::{Found, Table};
@@ -18,6 +19,16 @@ pub fn find_table(schema: &Schema, folded: &[u8]) -> Found
                 Found::Missing
             }
         }
+    }
+}
+
+/// The number of the index of a name, by one hash. Takes no memory.
+pub fn find_index(schema: &Schema, folded: &[u8]) -> Option<u32>
+    ensures { result ≡ found_index schema.now folded.now }
+{
+    match schema.index_names.find(folded) {
+        Some(number) => Some(number as u32),
+        None => None,
     }
 }
 

@@ -1,5 +1,5 @@
 //! The text of CREATE INDEX.
-ghost use Rattle.std.specs.Prelude.{◌≡◌, ◌<◌, ◌++◌, length, IfOk, OnOk};
+ghost use Rattle.std.specs.Prelude.{◌≡◌, ◌<◌, ◌++◌, length, IfOk, OnOk, OnErr};
 ghost use Rattle.std.specs.List.{list_all};
 ghost use Rattle.schema_model.specs.CreateTexts as text;
 ghost use Rattle.schema_model.specs.Schemas.{columns_at};
@@ -59,17 +59,28 @@ fn append_doubled(written: &mut Bytes, name: &[u8]) -> Result<(), Memory>
     Ok(())
 }
 
+/// A name in double quotes, with those inside doubled.
+fn quoted_name(alloc: Global, name: &[u8]) -> Result<Bytes, Memory>
+    ensures { IfOk result (λ quoted. quoted ≡ text.quoted name.now) }
+{
+    let mut quoted = Bytes::new(alloc);
+    quoted.append(b"\"")?;
+    append_doubled(&mut quoted, name)?;
+    quoted.append(b"\"")?;
+    Ok(quoted)
+}
+
 /// Appends a name as it is written in SQL: bare, or in double quotes with those inside doubled
-/// (<https://sqlite.org/lang_keywords.html>).
+/// (<https://sqlite.org/lang_keywords.html>). After `Memory` the text is as it was.
 pub fn append_name(written: &mut Bytes, name: &[u8]) -> Result<(), Memory>
-    ensures { OnOk result (written.new ≡ written.old ++ text.printed_name name.now) }
+    ensures ok { OnOk result (written.new ≡ written.old ++ text.printed_name name.now) }
+    ensures err { OnErr result (written.new ≡ written.old) }
 {
     if is_plain_name(name) {
         return written.append(name);
     }
-    written.append(b"\"")?;
-    append_doubled(written, name)?;
-    written.append(b"\"")
+    let quoted = quoted_name(written.allocator(), name)?;
+    written.append(quoted.as_slice())
 }
 
 fn collation_name(coll: Collation) -> &'static [u8]
@@ -147,22 +158,33 @@ fn append_further(
     Ok(())
 }
 
-/// Appends the columns of an index, with a comma and a space between.
+/// The columns of an index, with a comma and a space between.
+fn column_text(alloc: Global, columns: &[Column], entries: &[IndexColumn]) -> Result<Bytes, Memory>
+    requires { text.AreInTable columns.now entries.now }
+    ensures { IfOk result (λ written. written ≡ text.column_text columns.now entries.now) }
+{
+    let mut written = Bytes::new(alloc);
+    if let [first, rest @ ..] = entries {
+        append_named(&mut written, columns, *first)?;
+        append_further(&mut written, columns, rest)?;
+    }
+    Ok(written)
+}
+
+/// Appends the columns of an index, with a comma and a space between. After `Memory` the text is
+/// as it was.
 pub fn append_columns(
     written: &mut Bytes,
     columns: &[Column],
     entries: &[IndexColumn],
 ) -> Result<(), Memory>
     requires { text.AreInTable columns.now entries.now }
-    ensures { OnOk result (written.new ≡ written.old ++ text.column_text columns.now entries.now) }
+    ensures ok { OnOk result (written.new ≡ written.old
+        ++ text.column_text columns.now entries.now) }
+    ensures err { OnErr result (written.new ≡ written.old) }
 {
-    match entries {
-        [] => Ok(()),
-        [first, rest @ ..] => {
-            append_named(written, columns, *first)?;
-            append_further(written, columns, rest)
-        }
-    }
+    let list = column_text(written.allocator(), columns, entries)?;
+    written.append(list.as_slice())
 }
 
 /// The text of CREATE INDEX for an index whose table and columns are there, without a semicolon

@@ -19,7 +19,7 @@ use Rattle.schema_read.specs.Inserts.{keep_given, is_figures_name, insert_other,
 use Rattle.schema_read.specs.Inserts.{apply_insert}
 use Rattle.schema_read.specs.Rows.{has_rowid, next_rowid, insert_row as inserted_row}
 use Rattle.schema_read.specs.States.{pass_row, pass_statement}
-use Rattle.schema_read.specs.declared.state.Given.{Given}
+use Rattle.schema_model.specs.declared.given.Given.{Given}
 use Rattle.schema_read.specs.declared.state.State.{State}
 use Rattle.schema_read.proofs.AliasColumns.{IsAliased}
 use Rattle.schema_read.proofs.Cases.{MayBe, chosen}

@@ -16,7 +16,7 @@ use Rattle.schema_read.specs.Entries.{entry_value, row_values}
 use Rattle.schema_read.specs.Rows.{has_rowid, next_rowid, insert_row as inserted_row}
 use Rattle.schema_read.specs.States.{pass_row, pass_statement}
 use Rattle.schema_read.specs.declared.state.State.{State}
-use Rattle.schema_read.specs.declared.state.Given.{Given}
+use Rattle.schema_model.specs.declared.given.Given.{Given}
 use Rattle.schema_read.specs.declared.inserts.InsertHead as code
 
 pub record InsertHead : Type 0 where

@@ -10,8 +10,8 @@ ghost use Rattle.schema_read.specs.Dumps as meant;
 
 use crate::creates::{apply_index, apply_table, apply_unread};
 use crate::inserts::{apply_insert, insert_head};
-use crate::state::{GivenList, State, has_room, pass_statement};
-use schema_model::{Schema, Tables};
+use crate::state::{State, has_room, pass_statement};
+use schema_model::{GivenList, Schema, Tables};
 use schema_text::{create_index_head, create_table_head, create_unread_head};
 use sql_lex::{Span, Token, lex, run_tokens, statements};
 use sql_value::Memory;

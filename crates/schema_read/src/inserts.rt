@@ -5,8 +5,8 @@ ghost use Rattle.schema_text.specs.Cursor.{seen_named};
 ghost use Rattle.schema_read.specs.Inserts as meant;
 
 use crate::entries::{entry_value, row_values};
-use crate::state::{Given, State, pass_row, pass_statement};
-use schema_model::{Found, find_table};
+use crate::state::{State, pass_row, pass_statement};
+use schema_model::{Found, Given, find_table};
 use schema_text::{NameAndRest, after_word, cut_at_commas, first_enclosed, first_name};
 use sql_tokens::{Token, token_value};
 use sql_value::{Bytes, Memory, Value, fold, is_same_word};

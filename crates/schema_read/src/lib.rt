@@ -12,4 +12,4 @@ mod row_maps;
 mod state;
 
 pub use dump::{Dump, ReadDumpFault, read_dump};
-pub use state::{Given, GivenList};
+pub use schema_model::{Given, GivenList};

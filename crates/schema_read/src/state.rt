@@ -5,21 +5,9 @@ ghost use Rattle.schema_model.specs.Schemas.{size, with_unread, is_taken};
 ghost use Rattle.schema_read.specs.States as meant;
 
 use crate::row_maps::RowMaps;
-use schema_model::{Schema, add_unread, name_taken};
+use schema_model::{GivenList, Schema, add_unread, name_taken};
 use sql_value::{Bytes, Items, Memory, fold};
 use std::alloc::Global;
-
-/// A row of `sqlite_stat1`, which ANALYZE writes (<https://sqlite.org/lang_analyze.html>): figures
-/// of an index, or of a table where no index is named.
-#[derive(Drop)]
-pub struct Given {
-    pub table: Bytes,
-    pub index: Option<Bytes>,
-    pub stat: Bytes,
-}
-
-/// Rows of `sqlite_stat1` in the order of the dump.
-pub type GivenList = Items<Given>;
 
 /// What the statements so far have made.
 #[derive(Drop)]

@@ -63,6 +63,11 @@ impl<T: Drop> Items<T> {
         Ok(self.held.push(item)?)
     }
 
+    /// The allocator that the list grows by.
+    pub fn allocator(&self) -> Global {
+        *self.held.allocator()
+    }
+
     /// The list.
     pub fn as_slice(&self) -> &[T]
         ensures { result.now ≡ self.now }

@@ -17,16 +17,16 @@ invariant_of-self-then-contains_key c =
     ∙ c.if-contains_key.true in
     λ name. stands_earlier es c.self.inside.held.items c.args.column c.self.invariant there name
     ∙ ap (λ (columns : List Column). position (has_column_name name) columns)
-    (sym c.in-Ok.ensures.items)
+    (sym c.in_ok-push.ensures.items)
 
-pub invariant_of-self-in-Ok-insert : goal.invariant_of-self-in-Ok-insert
-invariant_of-self-in-Ok-insert c =
+pub invariant_of-self-in-Ok : goal.invariant_of-self-in-Ok
+invariant_of-self-in-Ok c =
     let es = c.self.inside.places.entries in
     let key = c.in_ok-key.ensures ∙ ap folded_bytes c.as_slice.ensures in
     let absent = is_none _
     (ap (found_under es) (sym c.as_slice-2.ensures.value) ∙ sym c.contains_key.ensures
     ∙ c.if-contains_key.false) in
-    let last = c.in-Ok-insert.ensures.entries
+    let last = c.in-Ok.ensures.entries
     ∙ insert_entry-new _ c.self.inside.places c.in_ok-key.key
     (length c.as_slice-place.result.now) absent in
     λ name. ap (λ (entries : List (Vec ℕ × ℕ)). finds entries name) last
@@ -35,4 +35,4 @@ invariant_of-self-in-Ok-insert c =
     ∙ stands_last es c.self.inside.held.items c.args.column c.self.invariant c.in_ok-key.key key
     name
     ∙ ap (λ (columns : List Column). position (has_column_name name) columns)
-    (sym c.in-Ok.ensures.items)
+    (sym c.in_ok-push.ensures.items)
