@@ -64,7 +64,8 @@ module _ (schema : Schema) (tree : StatementTree) (room : length (sources_of tre
         (fails_after fault (count_check (sources_of tree) ∷ []) (of_tables ++ of_names)
         (counted (sources_of tree) room) h)
 
-    pub fails_tables : (fault : BindFault) → Fails fault of_tables → Fails fault (checks schema tree)
+    pub fails_tables : (fault : BindFault) → Fails fault of_tables
+        → Fails fault (checks schema tree)
     fails_tables fault h = from_fails fault (fails_through fault of_tables of_names h)
 
     pub fails_names : (fault : BindFault) → Passes of_tables → Fails fault of_names

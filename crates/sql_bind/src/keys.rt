@@ -123,9 +123,7 @@ fn note_alias<'a>(
     if aliases.contains_key(key.as_slice()) {
         return Ok(());
     }
-    let Ok(_) = aliases.insert(key, expr) else {
-        return Err(Memory);
-    };
+    aliases.insert(key, expr)?;
     Ok(())
 }
 

@@ -26,7 +26,7 @@ returns c =
     let absent = is_none _
     (ap (λ n. is_some (lookup (λ k. is_name n k.items) es)) (sym c.as_slice.ensures.value)
     ∙ sym c.contains_key.ensures ∙ c.if-contains_key.false) in
-    let last = c.in-Ok.ensures.entries
+    let last = c.in_ok-insert.ensures.entries
     ∙ insert_entry-new _ c.args.aliases.now c.in_ok-key.key c.args.expr absent in
     λ results kept.
     let whole = results
