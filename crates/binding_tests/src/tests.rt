@@ -2,3 +2,4 @@
 mod binding;
 mod service;
 mod shown;
+mod terms;

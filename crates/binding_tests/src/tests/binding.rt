@@ -33,7 +33,7 @@ const TABLES: &str = "
     CREATE TABLE d(X TEXT COLLATE RTRIM);";
 
 /// Whether FROM begins with a table before which no LEFT JOIN stands.
-fn is_bindable(stmt: &Stmt) -> bool
+pub(crate) fn is_bindable(stmt: &Stmt) -> bool
     ensures source { result ≡ true → 0 < length (sources_of (statement_tree stmt.now)) }
     ensures left { result ≡ true → begins_left (sources_of (statement_tree stmt.now)) ≡ false }
 {

@@ -2,21 +2,21 @@
 //!
 //! - An item of FROM is its number, a column `item.column`, and its rowid `item.rowid`.
 //! - Behind a comparison stand what is applied to its sides (I INTEGER, R REAL, N NUMERIC, T TEXT,
-//!   B BLOB, - nothing) and its collation (b BINARY, n NOCASE, r RTRIM); behind IN what is applied to
-//!   the entries, and the collation.
+//!   B BLOB, - nothing) and its collation (b BINARY, n NOCASE, r RTRIM); behind IN what is applied
+//!   to the entries, and the collation.
 //! - An expression with an explicit collation has the letter of it behind a colon.
-//! - `&` comes before a conjunct, which has the item that owns it behind it; `by` before a key, which has its collation behind it, and a - where
-//!   it falls.
+//! - `&` comes before a conjunct, which has the item that owns it behind it; `by` before a key,
+//!   which has its collation behind it, and a - where it falls.
 //! - In parentheses stand the columns that are needed of an item.
 use sql_bound::{BExpr, BExprs, Bound};
 use sql_tree::{Cut, Lit, Op};
 use sql_value::{Affinity, Bytes, Collation, Memory};
 
-fn append_digit(shown: &mut Bytes, number: u32) -> Result<(), Memory> {
+pub(crate) fn append_digit(shown: &mut Bytes, number: u32) -> Result<(), Memory> {
     shown.push(b'0' + (number % 10) as u8)
 }
 
-fn affinity_letter(affinity: Option<Affinity>) -> u8 {
+pub(crate) fn affinity_letter(affinity: Option<Affinity>) -> u8 {
     match affinity {
         None => b'-',
         Some(Affinity::Integer) => b'I',
@@ -27,7 +27,7 @@ fn affinity_letter(affinity: Option<Affinity>) -> u8 {
     }
 }
 
-fn collation_letter(coll: Collation) -> u8 {
+pub(crate) fn collation_letter(coll: Collation) -> u8 {
     match coll {
         Collation::Binary => b'b',
         Collation::Nocase => b'n',
@@ -49,7 +49,7 @@ fn op_text(op: Op) -> &'static [u8] {
 /// An expression with items and columns by number. Behind each comparison stand what is applied to
 /// its sides, and its collation.
 #[cycle(append_expr)]
-fn append_expr(shown: &mut Bytes, expr: &BExpr) -> Result<(), Memory> {
+pub(crate) fn append_expr(shown: &mut Bytes, expr: &BExpr) -> Result<(), Memory> {
     match expr {
         BExpr::Lit(Lit::Int(number @ 0..=9)) => append_digit(shown, *number as u32),
         BExpr::Column { item, column } => {

@@ -1,0 +1,14 @@
+pub mod Lists
+pub mod Steps
+pub mod KeyTurns
+pub mod MarkTurns
+pub mod OwnTurns
+pub mod MappedSorts
+pub mod FirstsInOrder
+pub mod Visits
+pub mod Constants
+pub mod ListedColumns
+pub mod WholeLists
+pub mod OrTerms
+pub mod NamedItems
+pub mod MarkedTerms
