@@ -1,0 +1,12 @@
+pub mod Powers
+pub mod Sums
+pub mod Quotients
+pub mod Lists
+pub mod Classes
+pub mod Prefixes
+pub mod SampledRows
+pub mod CountLists
+pub mod Names
+pub mod WordLists
+pub mod GivenLists
+pub mod FigureLists
