@@ -1,0 +1,11 @@
+pub mod Places
+pub mod Steps
+pub mod Trees
+pub mod HexDigits
+pub mod TakenNames
+pub mod StepEquality
+pub mod TreeWalks
+pub mod UsableIndexes
+pub mod StartColumns
+pub mod Additions
+pub mod ScanLists
