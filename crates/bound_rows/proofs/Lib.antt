@@ -1,0 +1,10 @@
+pub mod Lists
+pub mod Numbers
+pub mod DueExprs
+pub mod Placing
+pub mod Sorts
+pub mod Filled
+pub mod LevelTests
+pub mod ItemSteps
+pub mod Reading
+pub mod Testing
