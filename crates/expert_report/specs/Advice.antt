@@ -23,9 +23,10 @@ use Rattle.sql_bind.specs.Binding.{bound_statement, first_failure}
 use Rattle.plan_form.specs.Scans.{table_scan}
 use Rattle.expert_report.specs.Faults.{parse_text, bind_text, not_built_text}
 
--- a statement has a plan, printed with the aliases of its tables, or is refused
+-- a statement has a plan, printed with the aliases of its tables and with a word for each loop whose
+-- index saves the table; or it is refused
 pub data Advice : Type 0 where
-  Planned : (plan : Plan) (aliases : List (Option (List ℕ))) → Advice
+  Planned : (plan : Plan) (covering : List Bool) (aliases : List (Option (List ℕ))) → Advice
   Refused : (text : List ℕ) → Advice
 
 abbrev pub has_keys : List KeyTree → Bool
@@ -44,7 +45,7 @@ abbrev pub bound_advice : Schema → StatementTree → Option BindFault → Advi
 bound_advice schema tree (Some fault) = Refused (bind_text fault)
 bound_advice schema tree None =
     cond (is_not_built tree) (Refused not_built_text)
-    (Planned (table_scan (bound_statement schema tree)) (aliases_statement tree))
+    (Planned (table_scan (bound_statement schema tree)) (false ∷ []) (aliases_statement tree))
 
 abbrev pub tree_advice : Schema → Option StatementTree → Advice
 tree_advice schema None = Refused (parse_text Syntax)
@@ -68,7 +69,7 @@ script_advice schema text =
 
 -- a plan means its statement, on every database of the schema and for all parameters
 abbrev pub AdviceMeans : plain.Schema → Advice → Type 0
-AdviceMeans schema (Planned plan aliases) = Means schema plan
+AdviceMeans schema (Planned plan covering aliases) = Means schema plan
 AdviceMeans schema (Refused text) = Unit {0}
 
 abbrev pub EachMeans : Schema → List Advice → Type 0

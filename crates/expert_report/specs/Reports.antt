@@ -11,7 +11,8 @@ use Rattle.expert_report.specs.declared.outcomes.Report.{Report}
 
 -- what is printed of a statement
 abbrev pub outcome_of : Schema → Advice → StatementOutcome
-outcome_of schema (advice.Planned plan aliases) = Planned (plan_lines schema aliases plan)
+outcome_of schema (advice.Planned plan covering aliases) =
+    Planned (plan_lines schema aliases covering plan)
 outcome_of schema (advice.Refused text) = Refused text
 
 abbrev pub report_on : Schema → List Advice → Report

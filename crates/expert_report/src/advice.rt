@@ -1,5 +1,5 @@
 //! From a script to what becomes of each of its statements.
-ghost use Rattle.std.specs.Prelude.{◌≡◌, ◌<◌, ◌^◌, [], length, map, None, Some, false};
+ghost use Rattle.std.specs.Prelude.{◌≡◌, ◌<◌, ◌^◌, [], ◌∷◌, length, map, None, Some, false};
 ghost use Rattle.std.specs.Prelude.{IfOk, OnOk};
 ghost use Rattle.std.specs.List.{AllByRecursion};
 ghost use Rattle.sql_meaning.specs.Asked.{Means};
@@ -56,7 +56,8 @@ fn planned<'a>(
     requires one { length (bound_of bound.now).items ≡ 1 }
     requires keys { (bound_of bound.now).keys ≡ [] }
     ensures outcome { IfOk result (λ outcome. outcome ≡ outcome_of schema.now
-        (meant.Planned (table_scan (bound_of bound.now)) (aliases_of bound.now.items.now))) }
+        (meant.Planned (table_scan (bound_of bound.now)) (false ∷ [])
+        (aliases_of bound.now.items.now))) }
     ensures means { OnOk result (Means (plain_schema schema.now)
         (table_scan (bound_of bound.now))) }
 {

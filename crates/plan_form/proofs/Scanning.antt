@@ -1,13 +1,8 @@
 -- The scan of the one table of a statement gives the statement's rows.
 use Rattle.std.proofs.Common.{◌≡◌, ℕ, true, List, [], ◌∷◌, refl, length, subst}
-use Rattle.std.specs.Prelude.{suc, zero}
 use Rattle.std.specs.List.{AllByRecursion}
 use Rattle.list_laws.specs.Nest.{same}
-use Rattle.list_laws.proofs.Bools.{and_left, and_right, both_true}
 use Rattle.sql_meaning.specs.Schemas.{Schema}
-use Rattle.sql_meaning.specs.Items.{Item, FitsExpr}
-use Rattle.sql_meaning.specs.Expressions.{BExpr, BExprs, Lit, Param, Column, Rowid, Plus, Collate}
-use Rattle.sql_meaning.specs.Expressions.{Cmp, OneOf, IsNull, Not, All, Any, Nil, More}
 use Rattle.sql_meaning.specs.Expressions.{names}
 use Rattle.sql_meaning.specs.Statements.{Bound, all_in, numbers_from}
 use Rattle.sql_meaning.specs.UsedTerms.{AllOf}

@@ -7,6 +7,7 @@ use Rattle.plan_form.specs.declared.path.EqPart.TheVariants as part
 use Rattle.plan_form.specs.declared.path.EqParts.{EqParts}
 use Rattle.plan_form.specs.declared.path.Edge.{Edge}
 use Rattle.plan_form.specs.declared.path.Path.{Path}
+use Rattle.plan_form.specs.declared.path.Paths.{Paths}
 use Rattle.plan_form.specs.declared.path.Path.TheOpen as node
 use Rattle.plan_form.specs.declared.path.Path.TheOpen.{Path-F, Paths-F}
 use Rattle.plan_form.specs.declared.path.Path.TheFolds.{fold-Path}
@@ -43,3 +44,7 @@ list_step list = paths (map (λ branch. branch.now) list.branches.now)
 -- contracts speak of a path through this view alone
 abbrev pub path_of : Path → plain.Path
 path_of = fold-Path plain.Path plain.Paths node_step list_step
+
+-- the branches of a union
+abbrev pub branches_of : Paths → plain.Paths
+branches_of list = paths (map (λ branch. path_of branch.now) list.branches.now)

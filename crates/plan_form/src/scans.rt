@@ -1,7 +1,7 @@
 //! The scan of a table, as a plan.
-ghost use Rattle.std.specs.Prelude.{◌≡◌, IfOk};
+ghost use Rattle.std.specs.Prelude.{◌≡◌, ◌∷◌, [], false, IfOk};
 ghost use Rattle.sql_bound.specs.Statements.{bound_of};
-ghost use Rattle.plan_form.specs.Plans.{plan_of};
+ghost use Rattle.plan_form.specs.Plans.{plan_of, covering_of};
 ghost use Rattle.plan_form.specs.Scans.{table_scan, TableScansMean};
 
 use crate::{Loop, Path, Plan};
@@ -14,6 +14,7 @@ use sql_value::Memory;
 pub fn scan_plan<'p>(arena: &'p Bump, bound: &'p Bound<'p>) -> Result<Plan<'p>, Memory>
     ensures plan { IfOk result (λ plan. plan_of plan ≡ table_scan (bound_of bound.now)) }
     ensures bound { IfOk result (λ plan. plan.bound.now ≡ bound.now) }
+    ensures covering { IfOk result (λ plan. covering_of plan ≡ false ∷ []) }
 {
     let scan = Loop {
         item: 0,
