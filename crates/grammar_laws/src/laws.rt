@@ -9,8 +9,8 @@ ghost use Rattle.sql_parse.specs.Refusals.{first_refusal};
 ghost use Rattle.sql_parse.specs.Statements.{IsSpelled};
 ghost use Rattle.sql_lexemes.specs.TokenLexemes.{lexemes_of};
 
-/// No statement that the grammar spells has a part that isn't read: each construct of `Foreign` stands
-/// nowhere in it. So the refusal of such parts takes nothing from the grammar.
+/// No statement that the grammar spells has a part that isn't read: each construct of `Foreign`
+/// stands nowhere in it. So the refusal of such parts takes nothing from the grammar.
 pub fn spelled_runs_are_known()
     ensures { (text : List ℕ) → (tokens : List Token) → (tree : StatementTree)
         → IsSpelled (lexemes_of text tokens) tree → first_foreign text tokens ≡ None }

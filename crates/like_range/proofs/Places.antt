@@ -52,7 +52,8 @@ behind_first_when : (asked : List ℕ → Bool) (b : ℕ) (bs : List ℕ) (goes_
     → some_rest asked (without_continuing bs) ≡ true
     → some_rest asked (without_continuing (b ∷ bs)) ≡ true
 behind_first_when asked b bs true g e = simp g e
-behind_first_when asked b bs false g e = simp g (right_or (asked (b ∷ bs)) _ (of_shorter asked bs e))
+behind_first_when asked b bs false g e =
+    simp g (right_or (asked (b ∷ bs)) _ (of_shorter asked bs e))
 
 -- behind a character at some place there is what is left behind the first
 after_characters : (asked : List ℕ → Bool) (text : List ℕ)
@@ -78,7 +79,8 @@ equals : (x y : ℕ) → x ≡ y → (x == y) ≡ true
 equals x y e = grind (arith, nat_tests)
 
 byte_asked : (byte : ℕ) (asked : List ℕ → Bool) → (byte ≡ 37 → ⊥) → (byte ≡ 95 → ⊥)
-    → (text : List ℕ) → fits_front (wildcard byte) asked text ≡ fits_front (JustByte byte) asked text
+    → (text : List ℕ)
+    → fits_front (wildcard byte) asked text ≡ fits_front (JustByte byte) asked text
 byte_asked byte asked p q text = simp (differs byte 37 p, differs byte 95 q) refl
 
 asks_byte : (byte : ℕ) (asked : List ℕ → Bool) → (byte ≡ 37 → ⊥) → (byte ≡ 95 → ⊥)
@@ -93,7 +95,8 @@ fits_byte (b ∷ bs) byte h p q f pattern =
     rw (take_all (length (b ∷ bs) - 1) bs (omega arith)) (record {
       same = simp (differs byte 37 p, differs byte 95 q, equals (folded b) (folded byte) f) refl;
       later = λ e. either _ _ _
-          (λ f. itself_is (λ rest. like rest pattern) bs (last_of_both (folded b == folded byte) _ f))
+          (λ f. itself_is (λ rest. like rest pattern) bs
+          (last_of_both (folded b == folded byte) _ f))
           (after_bytes byte (λ rest. like rest pattern) bs)
           (subst (λ asked. some_rest asked (b ∷ bs) ≡ true)
           (asks_byte byte (λ rest. like rest pattern) p q) e);
@@ -136,7 +139,8 @@ first_place_serves from pattern rest (c ∷ more) left p h =
     (λ e. itself_is (λ rest. like rest pattern) from (left.same ∙ e))) left
 
 pub whole_text_serves : (from pattern rest behind : List ℕ) → Leaves from pattern rest behind
-    → (length behind == 0) ≡ true → (length rest == 0) ≡ true → like from (37 ∷ pattern) ≡ like rest behind
+    → (length behind == 0) ≡ true → (length rest == 0) ≡ true
+    → like from (37 ∷ pattern) ≡ like rest behind
 whole_text_serves from pattern [] [] left p h = itself_is (λ rest. like rest pattern) from left.same
 whole_text_serves from pattern rest (c ∷ more) left p h = absurd (grind (arith, nat_tests))
 whole_text_serves from pattern (b ∷ bs) [] left p h = absurd (grind (arith, nat_tests))

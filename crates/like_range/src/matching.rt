@@ -1,8 +1,8 @@
 //! Matching of a text with a pattern.
 //!
 //! What stands between two `%` is matched at the first place where it fits, since a later place
-//! leaves no more of the text. So where a text stops to fit, only the last `%` takes a byte more, and
-//! the time is at most the text's length times the pattern's.
+//! leaves no more of the text. So where a text stops to fit, only the last `%` takes a byte more,
+//! and the time is at most the text's length times the pattern's.
 ghost use Rattle.std.specs.Prelude.{◌≡◌, ◌≢◌, ◌∷◌, ◌≤◌, IsNone, IfSome, List, ℕ, length};
 ghost use Rattle.std.specs.Prelude.{true, false};
 ghost use Rattle.sql_meaning.specs.Likes as meant;
@@ -17,9 +17,9 @@ struct Rest<'a> {
     pattern: &'a [u8],
 }
 
-/// Whether the whole text is like the pattern: a `%` takes any bytes, a `_` one character (a byte and
-/// all bytes 0x80 to 0xBF after it), any other byte itself, whatever the case of an ASCII letter.
-/// Takes no memory.
+/// Whether the whole text is like the pattern: a `%` takes any bytes, a `_` one character (a byte
+/// and all bytes 0x80 to 0xBF after it), any other byte itself, whatever the case of an ASCII
+/// letter. Takes no memory.
 pub fn like(text: &[u8], pattern: &[u8]) -> bool
     ensures { result ≡ meant.like text.now pattern.now }
 {

@@ -67,8 +67,9 @@ struct Ran {
     err: MemorySink,
 }
 
-/// A call with these words. The call of the shelf with the number `reading` fails, and a read gives at
-/// most `read` bytes; so do `writing` and `written` for the report, and `telling` for standard error.
+/// A call with these words. The call of the shelf with the number `reading` fails, and a read gives
+/// at most `read` bytes; so do `writing` and `written` for the report, and `telling` for standard
+/// error.
 fn run(
     alloc: Global,
     words: &Words,
@@ -114,7 +115,8 @@ fn tells(ran: &Ran, status: u8, out: &str) -> bool {
         && ran.err.written() == line.as_bytes()
 }
 
-/// Whether the plan is told, however few bytes a call moves, and where a call fails that isn't made.
+/// Whether the plan is told, however few bytes a call moves, and where a call fails that isn't
+/// made.
 fn tells_the_plan(alloc: Global) -> Result<bool, Memory> {
     Ok(
         tells(&faulty(alloc, NEVER, 1, NEVER, 999)?, 0, SCAN)

@@ -12,4 +12,5 @@ returns-then-last-eq255 c =
 pub returns : goal.returns
 returns c =
     grind (arith, common_steps)
-    ∙ sym (raised_last c.args.front.now c.args.last (grind (arith, nat_tests, c.if-last-eq255.false)))
+    ∙ sym (raised_last c.args.front.now c.args.last
+    (grind (arith, nat_tests, c.if-last-eq255.false)))
