@@ -3,7 +3,7 @@ use Rattle.std.proofs.Common.{◌≡◌, ℕ, ◌+◌, Bool, true, false, cond, 
 use Rattle.std.proofs.Common.{◌++◌, refl, ap, sym, ◌∙◌, map, drop, append_assoc, subst}
 use Rattle.std.specs.Prelude.{slice_get, IsSomeAnd}
 use Rattle.std.proofs.lemmas.List.{map_push}
-use Rattle.bound_rows.proofs.Lists.{dropped_get}
+use Rattle.list_laws.proofs.Turns.{dropped_get}
 use Rattle.sql_meaning.specs.Expressions.{BExpr}
 use Rattle.sql_meaning.specs.Statements.{Conjunct}
 use Rattle.bound_rows.specs.Levels.{is_due, due_exprs}

@@ -2,15 +2,14 @@
 -- its items are placed leaves out what it would at the end.
 use Rattle.std.specs.List.{AllByRecursion, filter, slice_get}
 use Rattle.std.proofs.Common.{◌≡◌, ◌≢◌, ℕ, Bool, true, false, cond}
-use Rattle.std.proofs.Common.{◌&&◌, ◌||◌, ◌==◌, List, [], ◌∷◌, Option, Some, None, refl, ap, sym}
+use Rattle.std.proofs.Common.{◌&&◌, ◌||◌, List, [], ◌∷◌, Option, Some, None, refl, ap, sym}
 use Rattle.std.proofs.Common.{◌∙◌, length, map}
 use Rattle.std.specs.Prelude.{replicate}
-use Rattle.std.proofs.lemmas.Bool.{eqb-true, eq-eqb}
-use Rattle.list_laws.specs.Nest.{place, product, nested, Agree, Apart, Distinct}
+use Rattle.list_laws.specs.Nest.{place, product, nested, Apart, Distinct}
 use Rattle.list_laws.proofs.Bools.{alike, and_left, and_right, both_true}
-use Rattle.list_laws.proofs.Lists.{all_map, all_always, all_flat_map, filter_none, filter-flat_map}
+use Rattle.list_laws.proofs.Lists.{all_map, all_always, filter_none, filter-flat_map}
 use Rattle.list_laws.proofs.Lists.{flat_map_same}
-use Rattle.list_laws.proofs.Nests.{Differs, place_other}
+use Rattle.list_laws.proofs.Nests.{agree_apart, apart_step, product_differs}
 use Rattle.sql_meaning.specs.Values.{Value}
 use Rattle.sql_meaning.specs.Rows.{Row, Assignment}
 use Rattle.sql_meaning.specs.Schemas.{Database}
@@ -23,7 +22,8 @@ use Rattle.sql_meaning.specs.Conjuncts.{level_test}
 use Rattle.sql_meaning.proofs.Links.{all_at}
 use Rattle.sql_meaning.proofs.Plans.{test_looks, common_looks, test_from, test_at, chosen_from}
 use Rattle.sql_meaning.proofs.PlanRows.{numbers_distinct}
-use Rattle.sql_meaning.proofs.Means.{Covered, first_common, empty_first}
+use Rattle.sql_meaning.proofs.Means.{Covered, covered_start, covered_next, covered_all}
+use Rattle.sql_meaning.proofs.Means.{named_case, some_named, first_common, empty_first}
 use Rattle.bound_rows.specs.Levels.{item_steps}
 use Rattle.bound_rows.proofs.Filled.{filled, filled_start, nested_filled, images_filled, IsBlind}
 use Rattle.bound_rows.proofs.Filled.{chosen_filled, level_filled, place_filled}
@@ -33,23 +33,6 @@ abbrev passes : Bound → List Value → List ℕ → List ℕ → Assignment �
 passes bound params placed [] a = true
 passes bound params placed (i ∷ is) a =
     level_test is_common params [] placed i 0 bound.conjuncts a && passes bound params (i ∷ placed) is a
-
-product_differs : (rows : ℕ → Assignment → List (Option Row)) (items : List ℕ) (env : Assignment)
-    → AllByRecursion (Differs items env) (product rows items env)
-product_differs rows [] env = ((λ i n. refl), tt)
-product_differs rows (i ∷ items) env =
-    all_flat_map _ _ (rows i env)
-    (all_always _ (rows i env)
-    (λ x. all_map _ _ _ (λ a d j n. d j n.1 ∙ place_other env i j x n.0)
-    (product_differs rows items (place env i x))))
-
-agree_apart : (placed items : List ℕ) (env a : Assignment) → Apart placed items
-    → Differs items env a → Agree placed env a
-agree_apart placed items env a apart d = all_map _ _ placed (λ j n. d j n) apart
-
-apart_step : (i : ℕ) (placed items : List ℕ) → AllByRecursion (λ j. j ≢ i) items
-    → Apart placed (i ∷ items) → Apart (i ∷ placed) items
-apart_step i placed items h apart = (h, all_map _ _ placed (λ j n. n.1) apart)
 
 filter_alike : (p q : Assignment → Bool) (ys : List Assignment)
     → AllByRecursion (λ y. p y ≡ q y) ys → filter p ys ≡ filter q ys
@@ -88,57 +71,6 @@ nested_items database bound params placed (i ∷ is) env distinct apart =
     (filter-flat_map (passes bound params placed (i ∷ is))
     (λ x. product rows is (place env i x)) (rows i env))
 
-covered_next : (ns : List ℕ) (item : ℕ) (placed rest : List ℕ) → Covered ns placed (item ∷ rest)
-    → Covered ns (item ∷ placed) rest
-covered_next ns item placed rest h =
-    all_map _ _ ns (λ n e. turn (n == item) (has_number n placed) (has_number n rest) e) h
-  where
-    turn : (e p r : Bool) → (p || (e || r)) ≡ true → ((e || p) || r) ≡ true
-    turn true p r h = refl
-    turn false p r h = h
-
-covered_all : (ns placed : List ℕ) → Covered ns placed [] → all_in ns placed ≡ true
-covered_all [] placed h = refl
-covered_all (n ∷ ns) placed h =
-    both_true _ _ (or_none (has_number n placed) h.0) (covered_all ns placed h.1)
-  where
-    or_none : (b : Bool) → (b || false) ≡ true → b ≡ true
-    or_none true h = refl
-    or_none false h = h
-
-unnamed : (ns : List ℕ) (item : ℕ) (placed : List ℕ) → has_number item ns ≡ false
-    → all_in ns (item ∷ placed) ≡ true → all_in ns placed ≡ true
-unnamed [] item placed h e = refl
-unnamed (n ∷ ns) item placed h e =
-    let apart : (n == item) ≡ false =
-    not_same n item (or_left (item == n) (has_number item ns) h) in
-    both_true _ _
-    (ap (λ b. b || has_number n placed) (sym apart) ∙ and_left _ (all_in ns (item ∷ placed)) e)
-    (unnamed ns item placed (or_right (item == n) (has_number item ns) h)
-    (and_right (has_number n (item ∷ placed)) _ e))
-  where
-    or_left : (a b : Bool) → (a || b) ≡ false → a ≡ false
-    or_left true b h = h
-    or_left false b h = refl
-
-    or_right : (a b : Bool) → (a || b) ≡ false → b ≡ false
-    or_right true b h = absurd (cc)
-    or_right false b h = h
-
-    not_same : (n m : ℕ) → (m == n) ≡ false → (n == m) ≡ false
-    not_same n m e =
-        not_case (n == m) (λ t. let yes : (m == n) ≡ true = eq-eqb m n (sym (eqb-true n m t)) in cc)
-      where
-        not_case : (b : Bool) → (b ≡ true → ⊥) → b ≡ false
-        not_case true f = absurd (f refl)
-        not_case false f = refl
-
-named_case : (ns : List ℕ) (item : ℕ) (placed : List ℕ) → all_in ns (item ∷ placed) ≡ true
-    → all_in ns placed ≡ false → (b : Bool) → has_number item ns ≡ b → b ≡ true
-named_case ns item placed e h true f = refl
-named_case ns item placed e h false f =
-    absurd (let yes : all_in ns placed ≡ true = unnamed ns item placed f e in cc)
-
 -- a common conjunct that names some item is tested where its last one is placed
 settled : (bound : Bound) (params : List Value) (placed items : List ℕ) (a : Assignment)
     (number : ℕ) (c : Conjunct) → passes bound params placed items a ≡ true
@@ -165,15 +97,6 @@ settled bound params placed (i ∷ items) a number c k is common cover h =
         → (all_in (names c.expr) (i ∷ placed) ≡ false → G) → G
     test_case true e f g = f e
     test_case false e f g = g e
-
-some_named : (ns : List ℕ) → is_empty ns ≡ false → all_in ns [] ≡ false
-some_named [] h = absurd (cc)
-some_named (n ∷ ns) h = refl
-
-covered_start : (ns rest : List ℕ) → all_in ns rest ≡ true → Covered ns [] rest
-covered_start [] rest h = tt
-covered_start (n ∷ ns) rest h =
-    (and_left _ _ h, covered_start ns rest (and_right (has_number n rest) _ h))
 
 settled_one : (bound : Bound) (params : List Value) (items : List ℕ) (a : Assignment)
     (number : ℕ) (c : Conjunct) → items ≢ [] → passes bound params [] items a ≡ true

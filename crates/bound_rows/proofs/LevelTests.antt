@@ -2,10 +2,10 @@
 use Rattle.std.proofs.Common.{◌≡◌, ℕ, ◌+◌, Bool, true, false, cond, not, ◌||◌, ◌&&◌, Option, Some, None}
 use Rattle.std.proofs.Common.{List, [], ◌∷◌, ◌++◌, refl, ap, ap₂, sym, ◌∙◌, map, ◌==◌}
 use Rattle.std.specs.List.{AllByRecursion, filter, flat_map}
-use Rattle.std.proofs.lemmas.Grind.{flat_map-append}
 use Rattle.std.proofs.lemmas.List.Elements.{filter_agree}
 use Rattle.list_laws.specs.Nest.{place, Step, nested}
 use Rattle.list_laws.proofs.Lists.{flat_map_same}
+use Rattle.list_laws.proofs.Turns.{flat_flat}
 use Rattle.sql_meaning.specs.Values.{Value}
 use Rattle.sql_meaning.specs.Rows.{Row, Assignment}
 use Rattle.sql_meaning.specs.Items.{Item}
@@ -118,12 +118,6 @@ choices_are database bound params placed item env owners =
     (is_left bound item) refl
 
 -- a step of nested loops, taken by each of some assignments
-flat_flat : {X Y Z : Type 0} (g : Y → List Z) (f : X → List Y) (xs : List X)
-    → flat_map g (flat_map f xs) ≡ flat_map (λ x. flat_map g (f x)) xs
-flat_flat g f [] = refl
-flat_flat g f (x ∷ xs) =
-    flat_map-append g (f x) (flat_map f xs) ∙ ap (λ l. flat_map g (f x) ++ l) (flat_flat g f xs)
-
 single : {X Y : Type 0} (b : Bool) (a : X) (g : X → List Y) → flat_map g (cond b (a ∷ []) [])
     ≡ cond b (g a) []
 single true a g = nil_end (g a)

@@ -1,6 +1,6 @@
 -- A row that is placed, and places that fit.
 use Rattle.std.proofs.Common.{◌≡◌, ◌<◌, ℕ, zero, suc, Bool, true, false, cond, Option, Some, List, [], ◌∷◌}
-use Rattle.std.proofs.Common.{◌++◌, ap, sym, ◌∙◌, map, length, arith, subst, set, get_or}
+use Rattle.std.proofs.Common.{◌++◌, ap, sym, ◌∙◌, map, length, arith, subst, set}
 use Rattle.std.proofs.Common.{append_assoc}
 use Rattle.std.specs.Prelude.{slice_get}
 use Rattle.std.specs.List.{AllByRecursion, filter}
@@ -76,12 +76,6 @@ truth_with database params es outer before new i table row r others e h =
     ∙ ap (λ l. all_true params es (placed database l))
     (e ∙ others (record { table = table; row = row }))
     ∙ ap (all_true params es) (placed_set database outer i table row)
-
-pub all_get : {X : Type 0} (P : X → Type 0) (xs : List X) (i : ℕ) (d : X) → AllByRecursion P xs
-    → i < length xs → P (get_or xs i d)
-all_get P [] i d h lt = absurd (omega (arith, lt))
-all_get P (x ∷ xs) zero d h lt = h.0
-all_get P (x ∷ xs) (suc i) d h lt = all_get P xs i d h.1 (omega (arith, lt))
 
 fit_case : {X : Type 0} (P : X → Type 0) (b : Bool) (old : List X) (x : X) → P x
     → AllByRecursion P old → AllByRecursion P (cond b (old ++ x ∷ []) old)

@@ -1,15 +1,14 @@
 -- A sort by values of keys that were evaluated beforehand is the sort by the keys.
 use Rattle.std.specs.Ordering.{ordering_then}
 use Rattle.std.specs.Cmp.{IsTotalOrder}
-use Rattle.std.specs.declared.cmp.Ordering.{Ordering}
-use Rattle.std.specs.List.{AllByRecursion}
 use Rattle.std.proofs.Common.{◌≡◌, ℕ, suc, ◌+◌, List, [], ◌∷◌, refl, ap, ap₂, sym, ◌∙◌, map}
 use Rattle.std.proofs.Common.{get_or, arith, subst}
 use Rattle.std.proofs.lemmas.Cmp.{on_total, then_total}
 use Rattle.std.specs.Cmp.Derive.{point_total}
+use Rattle.std.proofs.Common.{map-id}
 use Rattle.std.proofs.lemmas.Simd.{map-map}
-use Rattle.list_laws.specs.Order.{insert_by, sort_by}
-use Rattle.list_laws.proofs.Orders.{all_insert}
+use Rattle.list_laws.specs.Order.{sort_by}
+use Rattle.list_laws.proofs.SortedViews.{sort_by-map, sort_same, all_sort}
 use Rattle.sql_meaning.specs.Values.{Value, Null}
 use Rattle.sql_meaning.specs.Rows.{Assignment, AtRowid}
 use Rattle.sql_meaning.specs.Items.{Item}
@@ -20,7 +19,6 @@ use Rattle.sql_meaning.specs.Statements.{SortKey}
 use Rattle.sql_meaning.proofs.Seeks.{column_cmp_total}
 use Rattle.sql_eval.specs.Environments.{placed}
 use Rattle.sql_eval.specs.declared.environment.Place.{Place}
-use Rattle.index_lists.proofs.MappedSorts.{sort_by-map}
 use Rattle.bound_rows.specs.Keys.{key_values, values_cmp_from, Pair}
 use Rattle.bound_rows.specs.Keys.{keyed_by, pairs_cmp}
 use Rattle.bound_rows.specs.Places.{FitPlaces, AllFit, assignments}
@@ -63,31 +61,6 @@ pairs_are database ks params a b =
     (λ j. let e : 0 + j ≡ j = omega arith in
     ap (λ m. get_or (key_values ks params (placed database b)) m Null) e)
 
-insert_same : {X : Type 0} (c d : X → X → Ordering) → ((x y : X) → c x y ≡ d x y) → (x : X)
-    (xs : List X) → insert_by c x xs ≡ insert_by d x xs
-insert_same c d h x [] = refl
-insert_same c d h x (y ∷ ys) = rw (h x y, insert_same c d h x ys) refl
-
-sort_same : {X : Type 0} (c d : X → X → Ordering) → ((x y : X) → c x y ≡ d x y) → (xs : List X)
-    → sort_by c xs ≡ sort_by d xs
-sort_same c d h [] = refl
-sort_same c d h (x ∷ xs) =
-    ap (insert_by c x) (sort_same c d h xs) ∙ insert_same c d h x (sort_by d xs)
-
-map_same : {X : Type 0} (f : X → X) (xs : List X) → ((x : X) → f x ≡ x) → map f xs ≡ xs
-map_same f [] h = refl
-map_same f (x ∷ xs) h = ap₂ (λ y ys. y ∷ ys) (h x) (map_same f xs h)
-
-pub all_sort : {X : Type 0} (P : X → Type 0) (cmp : X → X → Ordering) (xs : List X)
-    → AllByRecursion P xs → AllByRecursion P (sort_by cmp xs)
-all_sort P cmp [] h = tt
-all_sort P cmp (x ∷ xs) h = all_insert P cmp x (sort_by cmp xs) h.0 (all_sort P cmp xs h.1)
-
-all_mapped : {X Y : Type 0} (P : Y → Type 0) (f : X → Y) (xs : List X)
-    → AllByRecursion (λ x. P (f x)) xs → AllByRecursion P (map f xs)
-all_mapped P f [] h = tt
-all_mapped P f (x ∷ xs) h = (h.0, all_mapped P f xs h.1)
-
 -- the places of the sorted pairs are the sorted places
 places_sorted : (database : Database) (ks : List SortKey) (params : List Value)
     (rows : List (List Place))
@@ -97,7 +70,7 @@ places_sorted database ks params rows =
     let key = keyed_by database ks params in
     ap (map (λ p. p.1)) (sort_by-map (pairs_cmp ks) key rows)
     ∙ map-map (λ p. p.1) key _
-    ∙ map_same _ _ (λ places. refl)
+    ∙ map-id _
     ∙ sort_same _ _ (pairs_are database ks params) rows
 
 pub sorted_is : (database : Database) (ks : List SortKey) (params : List Value)

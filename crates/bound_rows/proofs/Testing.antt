@@ -1,7 +1,7 @@
 -- Levels of a statement, and the places that its rows begin with.
 use Rattle.std.proofs.Common.{◌≡◌, ◌<◌, ℕ, zero, suc, ◌+◌, ◌-◌, List, [], ◌∷◌, refl, ap, sym, ◌∙◌}
 use Rattle.std.proofs.Common.{map, length, arith, subst, Some, None, true, false, append-nil}
-use Rattle.std.specs.Prelude.{replicate, slice_get, slice_index_or, ◌^◌, Option}
+use Rattle.std.specs.Prelude.{replicate, slice_get, slice_index_or, ◌^◌, Option, Bool}
 use Rattle.std.specs.List.{AllByRecursion, flat_map}
 use Rattle.std.proofs.lemmas.List.{length-map}
 use Rattle.list_laws.specs.Nest.{nested}
@@ -20,12 +20,12 @@ use Rattle.sql_eval.specs.Environments.{placed}
 use Rattle.bound_rows.specs.Answers.{HasFewRows}
 use Rattle.bound_rows.specs.Levels.{Marks, item_steps, items_before, due_exprs, with_rows, level_rows}
 use Rattle.bound_rows.specs.Places.{FitPlaces, empty_places, row_at, rows_at}
-use Rattle.bound_rows.specs.Readable.{AreReadable, lent_exprs}
+use Rattle.bound_rows.specs.Readable.{AreReadable, IsReadable, lent_exprs}
 use Rattle.bound_rows.specs.Tested.{IsTestable, level_table}
 use Rattle.bound_rows.specs.declared.levels.Level.{Level}
-use Rattle.bound_rows.proofs.LevelTests.{choices_are, level_is, step_taken}
+use Rattle.bound_rows.proofs.LevelTests.{choices_are, due_readable, level_is, step_taken}
 
-pub testable : (database : Database) (level : Level) (bound : BorrowedBound) (n : ℕ)
+testable : (database : Database) (level : Level) (bound : BorrowedBound) (n : ℕ)
     → level.bound.now ≡ bound → level.item ≡ n → n < length bound.items.now
     → AreReadable database (bound_of bound).items (lent_exprs level.owned.items)
     → AreReadable database (bound_of bound).items (lent_exprs level.common.items)
@@ -40,6 +40,25 @@ testable database level bound n is at lt owned common = record {
       (λ (b : BorrowedBound). AreReadable database (bound_of b).items (lent_exprs level.common.items))
       (sym is) common;
 }
+
+-- what is due at an item can be evaluated, where all conjuncts can
+pub due_testable : (database : Database) (level : Level) (bound : BorrowedBound)
+    (consumed placed : List ℕ) (n : ℕ)
+    → level.bound.now ≡ bound → level.item ≡ n → n < length bound.items.now
+    → lent_exprs level.owned.items ≡ due_exprs true consumed placed n 0 (bound_of bound).conjuncts
+    → lent_exprs level.common.items ≡ due_exprs false consumed placed n 0 (bound_of bound).conjuncts
+    → AllByRecursion (λ c. IsReadable database (bound_of bound).items c.expr)
+    (bound_of bound).conjuncts
+    → IsTestable database level
+due_testable database level bound consumed placed n is at lt owned common readable =
+    testable database level bound n is at lt (due true owned) (due false common)
+  where
+    due : (b : Bool) {es : List BExpr} → es ≡ due_exprs b consumed placed n 0 (bound_of bound).conjuncts
+        → AreReadable database (bound_of bound).items es
+    due b e =
+        subst (λ (l : List BExpr). AreReadable database (bound_of bound).items l) (sym e)
+        (due_readable database (bound_of bound).items b consumed placed n 0
+        (bound_of bound).conjuncts readable)
 
 pub empty_fit : (database : Database) (items : List BItem)
     → FitPlaces database (map item_of items) (empty_places items)

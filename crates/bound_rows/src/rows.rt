@@ -1,8 +1,7 @@
 //! The rows of an item, for given rows of the items placed before it.
 ghost use Rattle.std.specs.Prelude.{◌≡◌, ◌++◌, ◌<◌, Some, map, length, OnOk, IfOk, slice_index_or};
 ghost use Rattle.std.specs.Prelude.{[], slice_get, slice_set};
-ghost use Rattle.std.specs.List.{AllByRecursion, filter};
-ghost use Rattle.list_laws.specs.Nest.{place};
+ghost use Rattle.std.specs.List.{AllByRecursion};
 ghost use Rattle.sql_meaning.specs.Plans.{missing_if};
 ghost use Rattle.sql_meaning.specs.Statements.{is_left};
 ghost use Rattle.sql_value.specs.View.{plain_value};
@@ -68,47 +67,8 @@ fn hold_with(
     Ok(all)
 }
 
-/// Of the rows, those on which the conjuncts hold that the item owns.
-fn kept_rows(
-    alloc: Global,
-    source: &Source,
-    level: &Level,
-    outer: &[Place],
-    rows: &[u32],
-) -> Result<Vec<Option<u32>>, Memory>
-    requires level { IsTestable (plain_database source.now.tables.now) level.now }
-    requires outer { FitPlaces (plain_database source.now.tables.now)
-        (bound_of level.now.bound.now).items outer.now }
-    requires rows { AllByRecursion (λ row. row < length (slice_index_or
-        (plain_database source.now.tables.now) (level_table level.now) [])) rows.now }
-    ensures fit { IfOk result (λ kept. AllByRecursion (IsRowOf
-        (plain_database source.now.tables.now) (level_table level.now)) kept.items) }
-    ensures kept { IfOk result (λ kept.
-        rows_at (plain_database source.now.tables.now) (level_table level.now) kept.items
-        ≡ filter (λ x. all_true (map plain_value source.now.params.now)
-        (lent_exprs level.now.owned.items)
-        (place (placed (plain_database source.now.tables.now) outer.now) level.now.item x))
-        (rows_at (plain_database source.now.tables.now) (level_table level.now)
-        (map Some rows.now))) }
-{
-    let mut places = copied(alloc, outer)?;
-    let mut kept = Vec::new(alloc);
-    for number in rows {
-        let row = Some(*number);
-        let holds = hold_with(
-            alloc,
-            source,
-            level,
-            level.owned.as_slice(),
-            &mut places,
-            row,
-        )?;
-        push_if(&mut kept, holds, row)?;
-    }
-    Ok(kept)
-}
-
-/// The rows that the item has, the missing row among them.
+/// Of the rows, those on which the conjuncts hold that the item owns; for an item of LEFT that has
+/// none, the missing row.
 fn level_rows(
     alloc: Global,
     source: &Source,
@@ -130,7 +90,20 @@ fn level_rows(
         (rows_at (plain_database source.now.tables.now) (level_table level.now)
         (map Some rows.now)) (placed (plain_database source.now.tables.now) outer.now)) }
 {
-    let mut kept = kept_rows(alloc, source, level, outer, rows)?;
+    let mut places = copied(alloc, outer)?;
+    let mut kept = Vec::new(alloc);
+    for number in rows {
+        let row = Some(*number);
+        let holds = hold_with(
+            alloc,
+            source,
+            level,
+            level.owned.as_slice(),
+            &mut places,
+            row,
+        )?;
+        push_if(&mut kept, holds, row)?;
+    }
     let missing = level_item(level).left && kept.is_empty();
     push_if(&mut kept, missing, None)?;
     Ok(kept)

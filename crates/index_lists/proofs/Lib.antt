@@ -1,2 +1,1 @@
-pub mod MappedSorts
 pub mod SortColumns

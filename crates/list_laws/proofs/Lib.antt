@@ -6,7 +6,10 @@ pub mod Permuted
 pub mod Stretches
 pub mod Orders
 pub mod StableSorts
+pub mod SortedViews
+pub mod Turns
 pub mod FirstComings
+pub mod Neighbors
 pub mod KeyStretches
 pub mod Unions
 pub mod Nests

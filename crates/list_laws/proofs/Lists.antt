@@ -1,7 +1,8 @@
 -- Members of a list, all of which have a property.
 use Rattle.std.specs.List.{AllByRecursion, flat_map, filter}
 use Rattle.std.proofs.Common.{slice_get, Some, zero, suc, List, [], ◌∷◌, ◌++◌, ◌≡◌, ◌≢◌, ℕ, refl}
-use Rattle.std.proofs.Common.{ap, set, Bool, true, false, cond, ◌&&◌, ◌∙◌}
+use Rattle.std.proofs.Common.{ap, set, Bool, true, false, cond, ◌&&◌, ◌∙◌, map, take, drop}
+use Rattle.std.proofs.Common.{get_or, length, ◌<◌, arith}
 use Rattle.std.proofs.lemmas.List.Elements.{filter-append}
 use Rattle.list_laws.specs.Nest.{Env, Agree}
 
@@ -18,6 +19,39 @@ pub all_append : {X : Type 0} (P : X → Type 0) (xs ys : List X) → AllByRecur
     → AllByRecursion P ys → AllByRecursion P (xs ++ ys)
 all_append P [] ys h k = k
 all_append P (x ∷ xs) ys h k = (h.0, all_append P xs ys h.1 k)
+
+pub all_push : {X : Type 0} (P : X → Type 0) (xs : List X) (y : X) → AllByRecursion P xs → P y
+    → AllByRecursion P (xs ++ y ∷ [])
+all_push P xs y h p = all_append P xs (y ∷ []) h (p, tt)
+
+-- of joined lists, the first
+pub all_first : {X : Type 0} (P : X → Type 0) (xs ys : List X) → AllByRecursion P (xs ++ ys)
+    → AllByRecursion P xs
+all_first P [] ys h = tt
+all_first P (x ∷ xs) ys h = (h.0, all_first P xs ys h.1)
+
+pub all_mapped : {X Y : Type 0} (P : Y → Type 0) (f : X → Y) (xs : List X)
+    → AllByRecursion (λ x. P (f x)) xs → AllByRecursion P (map f xs)
+all_mapped P f [] h = tt
+all_mapped P f (x ∷ xs) h = (h.0, all_mapped P f xs h.1)
+
+pub all_take : {X : Type 0} (P : X → Type 0) (n : ℕ) (xs : List X) → AllByRecursion P xs
+    → AllByRecursion P (take n xs)
+all_take P zero xs h = tt
+all_take P (suc n) [] h = tt
+all_take P (suc n) (x ∷ xs) h = (h.0, all_take P n xs h.1)
+
+pub all_drop : {X : Type 0} (P : X → Type 0) (n : ℕ) (xs : List X) → AllByRecursion P xs
+    → AllByRecursion P (drop n xs)
+all_drop P zero xs h = h
+all_drop P (suc n) [] h = tt
+all_drop P (suc n) (x ∷ xs) h = all_drop P n xs h.1
+
+pub all_get : {X : Type 0} (P : X → Type 0) (xs : List X) (i : ℕ) (d : X) → AllByRecursion P xs
+    → i < length xs → P (get_or xs i d)
+all_get P [] i d h lt = absurd (omega (arith, lt))
+all_get P (x ∷ xs) zero d h lt = h.0
+all_get P (x ∷ xs) (suc i) d h lt = all_get P xs i d h.1 (omega (arith, lt))
 
 pub all_flat_map : {X Y : Type 0} (P : Y → Type 0) (g : X → List Y) (xs : List X)
     → AllByRecursion (λ x. AllByRecursion P (g x)) xs → AllByRecursion P (flat_map g xs)

@@ -26,7 +26,7 @@ pub place_other : {X : Type 0} (env : Env X) (i j : ℕ) (x : X) → i ≢ j
 place_other env i j x n = let m : j ≢ i = λ e. n (sym e) in rw get_or-set_other refl
 
 -- each member is the given assignment but for its items
-product_differs : {X : Type 0} (rows : ℕ → Env X → List X) (items : List ℕ) (env : Env X)
+pub product_differs : {X : Type 0} (rows : ℕ → Env X → List X) (items : List ℕ) (env : Env X)
     → AllByRecursion (Differs items env) (product rows items env)
 product_differs rows [] env = ((λ i n. refl), tt)
 product_differs rows (i ∷ items) env =
@@ -35,7 +35,7 @@ product_differs rows (i ∷ items) env =
     (λ x. all_map _ _ _ (λ a d j n. d j n.1 ∙ place_other env i j x n.0)
     (product_differs rows items (place env i x))))
 
-agree_apart : {X : Type 0} (placed items : List ℕ) (env a : Env X) → Apart placed items
+pub agree_apart : {X : Type 0} (placed items : List ℕ) (env a : Env X) → Apart placed items
     → Differs items env a → Agree placed env a
 agree_apart placed items env a apart d = all_map _ _ placed (λ j n. d j n) apart
 
@@ -82,7 +82,7 @@ one_row rows u us t ts placed env n apart s x ih =
     (tested (u (place env t.item x)) (t.test (place env t.item x)) (kept us ts)
     (nested ts (place env t.item x)) (product rows (step_items ts) (place env t.item x)) ih)
 
-apart_step : (i : ℕ) (placed items : List ℕ) → AllByRecursion (λ j. j ≢ i) items
+pub apart_step : (i : ℕ) (placed items : List ℕ) → AllByRecursion (λ j. j ≢ i) items
     → Apart placed (i ∷ items) → Apart (i ∷ placed) items
 apart_step i placed items n a = (n, all_map _ _ placed (λ j m. m.1) a)
 

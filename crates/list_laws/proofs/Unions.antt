@@ -6,6 +6,7 @@ use Rattle.std.proofs.Common.{◌||◌, ◌+◌, arith, ap, sym, ◌++◌, ◌�
 use Rattle.list_laws.specs.FirstComing.{has, keep_first}
 use Rattle.list_laws.specs.Tally.{tally, SameTally}
 use Rattle.list_laws.proofs.Tallies.{tally_same, tally_add, tally_zero, tally-filter, tally_agree}
+use Rattle.list_laws.proofs.Bools.{or_assoc}
 use Rattle.list_laws.proofs.Lists.{all_append, all_map}
 
 -- x is one of the rows, and the only one of them that is the same
@@ -74,10 +75,6 @@ has-append : {X : Type 0} (E : X → X → Bool) (xs ys : List X) (r : X)
     → has E (xs ++ ys) r ≡ (has E xs r || has E ys r)
 has-append E [] ys r = refl
 has-append E (x ∷ xs) ys r = rw (has-append E xs ys r) (or_assoc (E x r) (has E xs r) (has E ys r))
-  where
-    or_assoc : (a b c : Bool) → (a || (b || c)) ≡ ((a || b) || c)
-    or_assoc true b c = refl
-    or_assoc false b c = refl
 
 -- an element is there exactly where those that are the same weigh something
 pub has_some : {X : Type 0} (E : X → X → Bool) (xs : List X) (r : X) → has E xs r ≡ true

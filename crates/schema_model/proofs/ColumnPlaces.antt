@@ -14,7 +14,7 @@ use Rattle.schema_model.specs.Names.{is_name}
 use Rattle.schema_model.specs.Columns.{has_column_name}
 use Rattle.schema_model.specs.declared.columns.Column.{Column}
 
-abbrev or_else : {X : Type 0} → Option X → Option X → Option X
+abbrev pub or_else : {X : Type 0} → Option X → Option X → Option X
 or_else None other = other
 or_else (Some x) other = Some x
 
@@ -35,7 +35,7 @@ position_end : (n len : ℕ) (b : Bool) → n ≤ len
 position_end n len true h = grind arith
 position_end n len false h = grind arith
 
-position_push : {X : Type 0} (test : X → Bool) (xs : List X) (x : X)
+pub position_push : {X : Type 0} (test : X → Bool) (xs : List X) (x : X)
     → position test (xs ++ x ∷ [])
     ≡ or_else (position test xs) (cond (test x) (Some (length xs)) None)
 position_push test xs x =

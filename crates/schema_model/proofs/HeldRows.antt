@@ -2,7 +2,7 @@
 use Rattle.std.proofs.Common.{◌≡◌, ◌≢◌, ℕ, zero, suc, List, [], ◌∷◌, length, map, slice_get}
 use Rattle.std.proofs.Common.{slice_index_or, Some, refl, ap, sym, subst, ◌∙◌, arith}
 use Rattle.std.specs.List.{AllByRecursion}
-use Rattle.schema_model.proofs.Sound.{all_map}
+use Rattle.list_laws.proofs.Lists.{all_map}
 use Rattle.sql_meaning.specs.Values.{Value, Null, IsValue}
 use Rattle.sql_meaning.specs.Conversions.{IsFixed}
 use Rattle.sql_meaning.specs.Rows.{Row}

@@ -12,7 +12,7 @@ use Rattle.sql_meaning.specs.Schemas.{RisingRows}
 use Rattle.schema_model.specs.PlainSchemas.{plain_row, plain_rows}
 use Rattle.schema_model.specs.RisingRowids.{follows}
 use Rattle.schema_model.specs.declared.rows.Row as code
-use Rattle.schema_model.proofs.Sound.{all_map}
+use Rattle.list_laws.proofs.Lists.{all_map}
 
 abbrev Precedes : ℤ → Row → Type 0
 Precedes rowid later = int_cmp rowid later.rowid ≡ Less

@@ -1,10 +1,11 @@
 -- What is added under a name that isn't taken keeps a schema sound.
 use Rattle.std.proofs.Common.{◌≡◌, ℕ, zero, suc, ◌<◌, ◌^◌, Bool, true, false, ◌||◌, List, [], ◌∷◌}
 use Rattle.std.proofs.Common.{◌++◌, length, refl, ap, sym, ◌∙◌, subst, arith}
-use Rattle.std.specs.List.{AllByRecursion}
 use Rattle.std.specs.Cmp.Lexicographic.{same_text}
 use Rattle.std.proofs.lemmas.List.{map-append, append_assoc, append-nil, length_push}
 use Rattle.std.proofs.lemmas.List.Folds.{list_any-append}
+use Rattle.list_laws.proofs.Bools.{or_false_left, or_false_right, neither}
+use Rattle.list_laws.proofs.Lists.{all_map, all_push}
 use Rattle.sql_meaning.specs.Letters.{folded_bytes}
 use Rattle.schema_model.specs.declared.tables.Table.{Table}
 use Rattle.schema_model.specs.declared.indexes.Index.{Index}
@@ -12,17 +13,6 @@ use Rattle.schema_model.specs.Names.{is_name, has_name, Differ}
 use Rattle.schema_model.specs.Schemas.{Schema, table_names, unread_names, index_names, all_names}
 use Rattle.schema_model.specs.Schemas.{is_taken, size, with_table, with_unread, with_index}
 use Rattle.schema_model.specs.Schemas.{columns_at, IsTable, IsIndexOf, IsSchema}
-
-or_left : (a b : Bool) → (a || b) ≡ false → a ≡ false
-or_left true b e = e
-or_left false b e = refl
-
-or_right : (a b : Bool) → (a || b) ≡ false → b ≡ false
-or_right true b e = absurd (cc)
-or_right false b e = e
-
-both : (a b : Bool) → a ≡ false → b ≡ false → (a || b) ≡ false
-both a b e f = rw (e, f) refl
 
 other_way : (b : Bool) (x n : List ℕ) → is_name x n ≡ b → is_name n x ≡ false → is_name x n ≡ false
 other_way false x n e h = e
@@ -33,18 +23,18 @@ other_way true x n e h =
 
 has_between : (x n : List ℕ) (xs ys : List (List ℕ)) → has_name x (xs ++ ys) ≡ false
     → is_name x n ≡ false → has_name x (xs ++ n ∷ ys) ≡ false
-has_between x n [] ys h e = both (is_name x n) _ e h
+has_between x n [] ys h e = neither (is_name x n) _ e h
 has_between x n (z ∷ xs) ys h e =
-    both (is_name x z) _ (or_left (is_name x z) _ h)
-    (has_between x n xs ys (or_right (is_name x z) _ h) e)
+    neither (is_name x z) _ (or_false_left (is_name x z) _ h)
+    (has_between x n xs ys (or_false_right (is_name x z) _ h) e)
 
 -- a name that is not there may stand anywhere
 pub differ_between : (n : List ℕ) (xs ys : List (List ℕ)) → Differ (xs ++ ys)
     → has_name n (xs ++ ys) ≡ false → Differ (xs ++ n ∷ ys)
 differ_between n [] ys d h = (h, d)
 differ_between n (x ∷ xs) ys d h = (
-  has_between x n xs ys d.0 (other_way (is_name x n) x n refl (or_left (is_name n x) _ h)),
-  differ_between n xs ys d.1 (or_right (is_name n x) _ h),
+  has_between x n xs ys d.0 (other_way (is_name x n) x n refl (or_false_left (is_name n x) _ h)),
+  differ_between n xs ys d.1 (or_false_right (is_name n x) _ h),
 )
 
 free_name : (s : Schema) (n : List ℕ) → is_taken s n ≡ false → has_name n (all_names s) ≡ false
@@ -52,16 +42,6 @@ free_name s n h =
     list_any-append (is_name n) (table_names s.tables) _
     ∙ ap (λ b. has_name n (table_names s.tables) || b)
     (list_any-append (is_name n) (unread_names s.unread) (index_names s.indexes)) ∙ h
-
-pub all_push : {X : Type 0} (P : X → Type 0) (xs : List X) (y : X) → AllByRecursion P xs → P y
-    → AllByRecursion P (xs ++ y ∷ [])
-all_push P [] y a p = (p, tt)
-all_push P (x ∷ xs) y a p = (a.0, all_push P xs y a.1 p)
-
-pub all_map : {X : Type 0} (P Q : X → Type 0) (xs : List X) → ((x : X) → P x → Q x)
-    → AllByRecursion P xs → AllByRecursion Q xs
-all_map P Q [] f a = tt
-all_map P Q (x ∷ xs) f a = (f x a.0, all_map P Q xs f a.1)
 
 pub columns_stay : (tables : List Table) (t : Table) (n : ℕ) → n < length tables
     → columns_at (tables ++ t ∷ []) n ≡ columns_at tables n

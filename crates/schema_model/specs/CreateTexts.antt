@@ -3,6 +3,8 @@ use Rattle.std.specs.Prelude.{ℕ, ◌<◌, Bool, true, false, not, ◌&&◌, �
 use Rattle.std.specs.Prelude.{length, codes, slice_get, Option, Some, None, if◌then◌else◌}
 use Rattle.std.specs.List.{AllByRecursion, list_all}
 use Rattle.std.specs.Char.{is_ascii_alphabetic, is_ascii_alphanumeric}
+use Rattle.sql_meaning.specs.Orders as plain
+use Rattle.sql_value.specs.View.{plain_collation}
 use Rattle.sql_value.specs.Reserved.{is_reserved_name}
 use Rattle.sql_value.specs.declared.values.Collation.{Collation}
 use Rattle.sql_value.specs.declared.values.Collation.TheVariants.{Binary, Nocase, Rtrim}
@@ -41,10 +43,7 @@ collation_name Nocase = codes "NOCASE"
 collation_name Rtrim = codes "RTRIM"
 
 abbrev pub same_collation : Collation → Collation → Bool
-same_collation Binary Binary = true
-same_collation Nocase Nocase = true
-same_collation Rtrim Rtrim = true
-same_collation _ _ = false
+same_collation a b = plain.same_collation (plain_collation a) (plain_collation b)
 
 -- the collation of an entry where it isn't the column's own
 abbrev pub collation_text : Collation → Collation → List ℕ

@@ -7,7 +7,7 @@ ghost use Rattle.schema_model.specs.Schemas.{columns_at};
 use crate::columns::Column;
 use crate::indexes::{Index, IndexColumn};
 use crate::schema::Schema;
-use sql_value::{Bytes, Collation, Memory, is_reserved};
+use sql_value::{Bytes, Collation, Memory, is_reserved, is_same_collation};
 use std::alloc::Global;
 
 fn is_name_start(byte: u8) -> bool
@@ -90,17 +90,6 @@ fn collation_name(coll: Collation) -> &'static [u8]
         Collation::Binary => b"BINARY",
         Collation::Nocase => b"NOCASE",
         Collation::Rtrim => b"RTRIM",
-    }
-}
-
-fn is_same_collation(left: Collation, right: Collation) -> bool
-    ensures { result ≡ text.same_collation left right }
-{
-    match (left, right) {
-        (Collation::Binary, Collation::Binary) => true,
-        (Collation::Nocase, Collation::Nocase) => true,
-        (Collation::Rtrim, Collation::Rtrim) => true,
-        _ => false,
     }
 }
 

@@ -5,7 +5,7 @@ use Rattle.schema_model.specs.HeldRows.{AreRows}
 use Rattle.schema_model.specs.UsableIndexes.{IsEmptyUnlessUsable}
 use Rattle.schema_model.specs.declared.indexes.Index.{Index}
 use Rattle.schema_model.specs.Schemas.{with_unread, with_index}
-use Rattle.schema_model.proofs.Sound.{all_map, all_push}
+use Rattle.list_laws.proofs.Lists.{all_map, all_push}
 use Rattle.schema_read.specs.States.{pass_statement, pass_row, with_schema}
 use Rattle.schema_model.specs.declared.given.Given.{Given}
 use Rattle.schema_read.specs.declared.state.State.{State}

@@ -11,7 +11,7 @@ use Rattle.schema_model.specs.declared.indexes.IndexColumn.{IndexColumn}
 use Rattle.schema_model.specs.declared.tables.Table.{Table}
 use Rattle.schema_model.specs.declared.tables.Found.{Found}
 use Rattle.schema_model.specs.declared.tables.Found.TheVariants.{Read, Unread, Missing}
-use Rattle.schema_model.proofs.Sound.{all_push}
+use Rattle.list_laws.proofs.Lists.{all_push}
 use Rattle.schema_text.specs.Cursor.{NameAndRest}
 use Rattle.schema_text.specs.Heads.{IndexHead}
 use Rattle.schema_text.specs.TableTexts.{table_of}

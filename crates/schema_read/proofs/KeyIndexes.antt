@@ -4,7 +4,7 @@ use Rattle.std.specs.List.{AllByRecursion}
 use Rattle.sql_meaning.specs.Letters.{folded_bytes}
 use Rattle.schema_model.specs.Schemas.{Schema, is_taken}
 use Rattle.schema_model.specs.UsableIndexes.{IsEmptyUnlessUsable}
-use Rattle.schema_model.proofs.Sound.{all_push}
+use Rattle.list_laws.proofs.Lists.{all_push}
 use Rattle.schema_model.specs.declared.tables.Table.{Table}
 use Rattle.schema_model.specs.declared.indexes.IndexColumn.{IndexColumn}
 use Rattle.schema_text.specs.declared.keys.KeyConstraint.{KeyConstraint}

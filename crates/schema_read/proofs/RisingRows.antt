@@ -9,7 +9,7 @@ use Rattle.std.proofs.lemmas.Map.Lookups.{exact_signed}
 use Rattle.sql_meaning.specs.Values.{Value}
 use Rattle.sql_meaning.specs.Rows.{Row}
 use Rattle.sql_meaning.specs.Schemas.{RisingRows}
-use Rattle.schema_model.proofs.Sound.{all_map}
+use Rattle.list_laws.proofs.Lists.{all_map}
 use Rattle.schema_read.specs.Rows.{insert_row}
 
 abbrev row_of : ℤ → List Value → Row

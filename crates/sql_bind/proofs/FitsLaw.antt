@@ -23,7 +23,8 @@ use Rattle.sql_bind.specs.Keys.{sort_key, key_expr}
 use Rattle.sql_bind.specs.Needs.{needed_of, exprs_in, columns_kept, columns_named, names_column}
 use Rattle.sql_bind.specs.Binding.{later_checks, results_in, terms_in, bound_in}
 use Rattle.sql_bind.specs.Binding.{bound_statement, needs_statement, first_failure}
-use Rattle.sql_bind.proofs.Alls.{all_mapped, all_both, all_any, all_each, all_below, all_kept}
+use Rattle.list_laws.proofs.Lists.{all_always, all_append, all_filter, all_map, all_mapped}
+use Rattle.sql_bind.proofs.Alls.{all_below}
 use Rattle.sql_names.proofs.Checks.{passed_both}
 use Rattle.sql_bind.proofs.Passed.{passed_one, few, counted, from_is_scope}
 use Rattle.sql_bind.proofs.SoundParts.{wide, results_sound, key_sound}
@@ -45,7 +46,7 @@ module _ (scope : Scope) (ok : IsScope scope) where
   kept_within : (item : ℕ) → AllByRecursion (λ column. column < width_at scope item)
       (columns_kept scope item)
   kept_within item =
-      all_kept (λ column. column < width_at scope item)
+      all_filter (λ column. column < width_at scope item)
       (λ column. not (is_alias (alias_at scope item) column))
       (range_with_len 0 (width_at scope item))
       (all_below (λ column. column < width_at scope item) (width_at scope item) (λ k h. h))
@@ -53,7 +54,7 @@ module _ (scope : Scope) (ok : IsScope scope) where
   named_within : (exprs : List BExpr) (item : ℕ)
       → AllByRecursion (λ column. column < width_at scope item) (columns_named scope exprs item)
   named_within exprs item =
-      all_kept (λ column. column < width_at scope item)
+      all_filter (λ column. column < width_at scope item)
       (λ column. list_any (names_column item column) exprs)
       (range_with_len 0 (width_at scope item))
       (all_below (λ column. column < width_at scope item) (width_at scope item) (λ k h. h))
@@ -78,9 +79,9 @@ module _ (scope : Scope) (ok : IsScope scope) where
       sym (get_or_from_slice_get needs item columns [] is)
       ∙ get_or-map-range_with_len (needed_of scope rowids exprs) 0 (length scope.items) item item []
       below (omega arith) in
-      all_each (λ column. column < width_at scope item)
-      (λ column. column < width (plain_schema scope.schema) scope.items item)
-      (λ column h. wide scope.schema column (slice_get scope.items item) h) columns
+      all_map (λ column. column < width_at scope item)
+      (λ column. column < width (plain_schema scope.schema) scope.items item) columns
+      (λ column h. wide scope.schema column (slice_get scope.items item) h)
       (rw same (needed_within rowids exprs item))
 
   keys_all_sound : (tree : StatementTree)
@@ -89,14 +90,13 @@ module _ (scope : Scope) (ok : IsScope scope) where
   keys_all_sound tree =
       all_mapped (λ k. IsSound (plain_schema scope.schema) scope.items k.expr)
       (sort_key scope (results_in scope tree)) (order_keys_of tree)
-      (all_any
+      (all_always
       (λ key.
       IsSound (plain_schema scope.schema) scope.items
-      (key_expr scope (results_in scope tree) key.expr))
+      (key_expr scope (results_in scope tree) key.expr)) (order_keys_of tree)
       (λ key.
       key_sound scope ok (results_in scope tree) (results_sound scope ok (entries_of tree))
-      key.expr)
-      (order_keys_of tree))
+      key.expr))
 
 few_terms : (scope : Scope) (tree : StatementTree) → first_failing (of_count scope tree) ≡ None
     → length (terms_in scope tree) ≤ most_conjuncts
@@ -109,9 +109,9 @@ all_tables : (schema : Schema) (sources : List SourceTree) → IsScope (scope_of
     → AllByRecursion (λ i. i.table < length (plain_schema schema).tables)
     (scope_of schema sources).items
 all_tables schema sources ok =
-    all_each (λ i. i.table < length schema.tables)
-    (λ i. i.table < length (plain_schema schema).tables)
-    (λ i h. rw (length-map schema.tables plain_table) h) (scope_of schema sources).items ok.tables
+    all_map (λ i. i.table < length schema.tables)
+    (λ i. i.table < length (plain_schema schema).tables) (scope_of schema sources).items
+    (λ i h. rw (length-map schema.tables plain_table) h) ok.tables
 
 pub statement_fits : (schema : Schema) (tree : StatementTree) → 0 < length (sources_of tree)
     → begins_left (sources_of tree) ≡ false → first_failure schema tree ≡ None
@@ -129,7 +129,7 @@ statement_fits schema tree some first passed =
     let f = passed_both (of_keys scope tree) (of_count scope tree) e.1 in
     let terms : AllByRecursion (Kept scope) (terms_in scope tree) =
     rw (terms_together scope sources (filter_of tree))
-    (all_both (Kept scope) (ons_terms scope sources) (terms_of scope None (filter_of tree))
+    (all_append (Kept scope) (ons_terms scope sources) (terms_of scope None (filter_of tree))
     (ons_kept schema sources ok b.0) (filter_kept scope (filter_of tree) ok e.0)) in
     record {
       some_item = rw (counted schema sources) some;
@@ -139,16 +139,16 @@ statement_fits schema tree some first passed =
       tables = all_tables schema sources ok;
       results = all_mapped (IsSound (plain_schema schema) scope.items) (λ r. r.expr)
           (results_in scope tree) (results_sound scope ok (entries_of tree));
-      conjuncts = all_each (Kept scope) (λ c. IsSound (plain_schema schema) scope.items c.expr)
-          (λ c h. h.sound) (terms_in scope tree) terms;
+      conjuncts = all_map (Kept scope) (λ c. IsSound (plain_schema schema) scope.items c.expr)
+          (terms_in scope tree) (λ c h. h.sound) terms;
       keys = keys_all_sound scope ok tree;
       needs_each = length-map-range_with_len (needed_of scope (changes_rows tree) exprs) 0
           (length scope.items);
       needed = needed_at scope ok (changes_rows tree) exprs;
       first = first_is_not_left schema sources first;
-      owners = all_each (Kept scope)
+      owners = all_map (Kept scope)
           (λ c. (owner : ℕ) → c.owner ≡ Some owner
           → is_left (bound_statement schema tree) owner ≡ true)
-          (λ c h. h.left) (terms_in scope tree) terms;
-      owned = all_each (Kept scope) StaysLeft (λ c h. h.stays) (terms_in scope tree) terms;
+          (terms_in scope tree) (λ c h. h.left) terms;
+      owned = all_map (Kept scope) StaysLeft (terms_in scope tree) (λ c h. h.stays) terms;
     }

@@ -21,7 +21,7 @@ use Rattle.sql_bind.specs.Sources.{scope_of, named_item}
 use Rattle.sql_bind.specs.Conditions.{NumberedSource, numbered_from, owner_if, owner_of, with_owner}
 use Rattle.sql_bind.specs.Conditions.{condition_checks, on_checks, ons_checks, terms_of, on_terms}
 use Rattle.sql_bind.specs.Conditions.{ons_terms}
-use Rattle.sql_bind.proofs.Alls.{all_mapped, all_both, all_each, all_two, all_joined}
+use Rattle.list_laws.proofs.Lists.{all_append, all_both, all_flat_map, all_map, all_mapped}
 use Rattle.sql_bind.proofs.SoundParts.{terms_sound}
 
 parted : (P : ℕ → Type 0) (xs ys : List ℕ) → AllByRecursion P (xs ++ ys)
@@ -41,7 +41,7 @@ mutual
   all_flat_names P Nil h = tt
   all_flat_names P (More e es) h =
       let h2 = parted P (names e) (all_names es) h in
-      all_both (λ f. AllByRecursion P (names f)) (flat e) (flat_all es) (flat_names P e h2.0)
+      all_append (λ f. AllByRecursion P (names f)) (flat e) (flat_all es) (flat_names P e h2.0)
       (all_flat_names P es h2.1)
 
 -- each part passes where they pass together
@@ -86,15 +86,14 @@ module _ (scope : Scope) (ok : IsScope scope) where
       → first_failing (expr_checks scope owner tree) ≡ None
       → AllByRecursion (λ e. StaysLeft (with_owner owner e)) (flat (bound scope tree))
   stays_where None tree h =
-      all_each (IsSound (plain_schema scope.schema) scope.items)
-      (λ e. StaysLeft (with_owner None e)) (λ e sound owner is. absurd (cc))
-      (flat (bound scope tree)) (terms_sound scope ok tree)
+      all_map (IsSound (plain_schema scope.schema) scope.items)
+      (λ e. StaysLeft (with_owner None e)) (flat (bound scope tree))
+      (λ e sound owner is. absurd (cc)) (terms_sound scope ok tree)
   stays_where (Some item) tree h =
-      all_each (λ e. AllByRecursion (λ named. named ≤ item) (names e))
-      (λ e. StaysLeft (with_owner (Some item) e)) (λ e stays owner is.
+      all_map (λ e. AllByRecursion (λ named. named ≤ item) (names e))
+      (λ e. StaysLeft (with_owner (Some item) e)) (flat (bound scope tree)) (λ e stays owner is.
       (let same : item ≡ owner = cc in
       subst (λ (n : ℕ). AllByRecursion (λ named. named ≤ n) (names e)) same stays))
-      (flat (bound scope tree))
       (flat_names (λ named. named ≤ item) (bound scope tree) (bound_stays scope item tree ok h))
 
   pub condition_kept : (owner : Option ℕ) (on : Option Tree) → OwnsLeft scope owner
@@ -103,10 +102,10 @@ module _ (scope : Scope) (ok : IsScope scope) where
   condition_kept owner None left h = tt
   condition_kept owner (Some tree) left h =
       all_mapped (Kept scope) (with_owner owner) (flat (bound scope tree))
-      (all_two (IsSound (plain_schema scope.schema) scope.items)
+      (all_both (IsSound (plain_schema scope.schema) scope.items)
       (λ e. StaysLeft (with_owner owner e)) (λ e. Kept scope (with_owner owner e))
-      (λ e sound stays. record { sound = sound; left = left; stays = stays })
-      (flat (bound scope tree)) (terms_sound scope ok tree) (stays_where owner tree h))
+      (flat (bound scope tree))
+      (λ e sound stays. record { sound = sound; left = left; stays = stays }) (terms_sound scope ok tree) (stays_where owner tree h))
 
 left_at : (schema : Schema) (sources : List SourceTree) (s : NumberedSource)
     → slice_get sources s.item ≡ Some s.source → OwnsLeft (scope_of schema sources) (owner_of s)
@@ -126,12 +125,12 @@ pub ons_kept : (schema : Schema) (sources : List SourceTree)
 ons_kept schema sources ok h =
     let scope = scope_of schema sources in
     let list = numbered_from 0 sources in
-    all_joined (Kept scope) (on_terms scope) list
-    (all_two (λ s. slice_get sources s.item ≡ Some s.source)
+    all_flat_map (Kept scope) (on_terms scope) list
+    (all_both (λ s. slice_get sources s.item ≡ Some s.source)
     (λ s. first_failing (on_checks scope s) ≡ None)
-    (λ s. AllByRecursion (Kept scope) (on_terms scope s))
+    (λ s. AllByRecursion (Kept scope) (on_terms scope s)) list
     (λ s at passes. condition_kept scope ok (owner_of s) s.source.on (left_at schema sources s at)
-    passes) list
+    passes)
     (numbered_at sources sources 0 (λ k.
     (let same : 0 + k ≡ k = omega arith in ap (slice_get sources) same)))
     (all_passed (on_checks scope) list h))

@@ -33,8 +33,8 @@ use Rattle.sql_bind.specs.Results.{ResultColumn, width_at, alias_at, column_at, 
 use Rattle.sql_bind.specs.Results.{columns_under, every_column, results_of, result_columns}
 use Rattle.sql_bind.specs.Keys.{KeyForm, Position, Bare, BareUnder, Other, key_form, result_at}
 use Rattle.sql_bind.specs.Keys.{aliased, under, meant_by, key_expr, is_called}
-use Rattle.sql_bind.proofs.Alls.{all_both, all_mapped, all_joined, all_any, all_below, all_found}
-use Rattle.sql_bind.proofs.Alls.{OfFound}
+use Rattle.list_laws.proofs.Lists.{all_always, all_append, all_flat_map, all_mapped}
+use Rattle.sql_bind.proofs.Alls.{OfFound, all_below, all_found}
 
 -- an item's columns, of the schema with names and of the one without
 columns_seen : (tables : List Table) (n column : ℕ) (at : Option Table)
@@ -75,7 +75,7 @@ module _ (scope : Scope) (ok : IsScope scope) where
 
   star_sound : AllByRecursion SoundResult (every_column scope)
   star_sound =
-      all_joined SoundResult (item_columns scope) (range_with_len 0 (length scope.items))
+      all_flat_map SoundResult (item_columns scope) (range_with_len 0 (length scope.items))
       (all_below (λ item. AllByRecursion SoundResult (item_columns scope item)) (length scope.items)
       item_sound)
 
@@ -96,8 +96,8 @@ module _ (scope : Scope) (ok : IsScope scope) where
   pub results_sound : (entries : List ItemTree)
       → AllByRecursion SoundResult (result_columns scope entries)
   results_sound entries =
-      all_joined SoundResult (results_of scope) entries
-      (all_any (λ entry. AllByRecursion SoundResult (results_of scope entry)) entry_sound entries)
+      all_flat_map SoundResult (results_of scope) entries
+      (all_always (λ entry. AllByRecursion SoundResult (results_of scope entry)) entries entry_sound)
 
   null_sound : Sound (Lit value.Null)
   null_sound = record { names = tt; conversions = tt }
@@ -176,7 +176,7 @@ module _ (scope : Scope) (ok : IsScope scope) where
         → FitsExprs (plain_schema scope.schema) scope.items es → AllByRecursion Sound (flat_all es)
     all_flat_sound Nil h k = tt
     all_flat_sound (More e es) h k =
-        all_both Sound (flat e) (flat_all es)
+        all_append Sound (flat e) (flat_all es)
         (flat_sound e (record { names = h.0; conversions = k.0 })) (all_flat_sound es h.1 k.1)
 
   pub terms_sound : (tree : Tree) → AllByRecursion Sound (flat (bound scope tree))

@@ -1,5 +1,5 @@
 -- That a statement fits a schema depends on the schema's tables alone.
-use Rattle.std.proofs.Common.{◌≡◌, ℕ, None, List, [], ◌∷◌, refl, ap, ap₂, ◌∙◌}
+use Rattle.std.proofs.Common.{ℕ, List, [], ◌∷◌}
 use Rattle.std.specs.List.{AllByRecursion}
 use Rattle.sql_meaning.specs.Schemas.{Schema, Index}
 use Rattle.sql_meaning.specs.Items.{Item}

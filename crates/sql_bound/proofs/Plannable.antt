@@ -2,7 +2,6 @@
 use Rattle.std.proofs.Common.{◌≡◌, ◌<◌, ◌≤◌, ◌+◌, ◌==◌, ◌||◌, ℕ, zero, suc, Bool, true, false}
 use Rattle.std.proofs.Common.{List, [], ◌∷◌, ◌++◌, refl, ap, arith, length}
 use Rattle.std.proofs.lemmas.Bool.{eq-eqb}
-use Rattle.std.specs.List.{AllByRecursion}
 use Rattle.list_laws.proofs.Bools.{and_left, and_right, both_true}
 use Rattle.list_laws.proofs.Lists.{all_map}
 use Rattle.sql_meaning.specs.Schemas.{Schema}

@@ -4,6 +4,7 @@ use Rattle.std.proofs.Common.{refl, ap, sym, ◌∙◌, if◌then◌else◌, Non
 use Rattle.std.proofs.Common.{get_or, length, ◌<◌}
 use Rattle.std.proofs.lemmas.Option.{slice_get-map, slice_get-get_or}
 use Rattle.std.proofs.lemmas.Bool.{eqb-true, eq-eqb}
+use Rattle.list_laws.proofs.Bools.{alike}
 use Rattle.sql_meaning.specs.Statements.{has_number, all_in, is_empty}
 use Rattle.sql_meaning.specs.Conjuncts.{common_first, first_at}
 use Rattle.sql_meaning.specs.Expressions.{names}
@@ -91,14 +92,9 @@ closed mask item items p (n ∷ ns) =
     ∙ ap (λ b. ((n == item) || has_item mask n) && b) (closed mask item items p ns)
     ∙ closed_step (n == item) (has_item mask n) (standing_all mask item ns)
 
-same_truth : (a b : Bool) → (a ≡ true → b ≡ true) → (b ≡ true → a ≡ true) → a ≡ b
-same_truth true b f g = sym (f refl)
-same_truth false true f g = g refl
-same_truth false false f g = refl
-
 turned : (m n : ℕ) → (m == n) ≡ (n == m)
 turned m n =
-    same_truth (m == n) (n == m) (λ t. eq-eqb n m (sym (eqb-true m n t)))
+    alike (m == n) (n == m) (λ t. eq-eqb n m (sym (eqb-true m n t)))
     (λ t. eq-eqb m n (sym (eqb-true n m t)))
 
 here_step : (same there rest : Bool) (s : Standing) → (is_closed s ≡ true → rest ≡ is_here s)

@@ -2,7 +2,7 @@
 use Rattle.std.specs.Prelude.{◌≡◌, ◌<◌, ◌≤◌, ℕ, true, false, Some, List, length}
 use Rattle.std.specs.Prelude.{slice_get}
 use Rattle.std.specs.List.{AllByRecursion}
-use Rattle.sql_meaning.specs.Schemas.{Schema, Index, columns_of}
+use Rattle.sql_meaning.specs.Schemas.{Schema, columns_of}
 use Rattle.sql_meaning.specs.Items.{Item, FitsExpr}
 use Rattle.sql_meaning.specs.Statements.{Bound, Conjunct, OwnersAreLeft, is_left}
 use Rattle.sql_meaning.specs.Statements.{table_of}

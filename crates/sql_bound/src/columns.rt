@@ -2,9 +2,10 @@
 ghost use Rattle.std.specs.Prelude.{◌≡◌, map, option_map, slice_get};
 ghost use Rattle.sql_meaning.specs.Expressions as meant;
 ghost use Rattle.sql_meaning.specs.Items.{own_column, table_column};
+ghost use Rattle.sql_meaning.specs.Orders.{same_site};
 ghost use Rattle.sql_meaning.specs.Schemas.{column_or};
 ghost use Rattle.schema_model.specs.PlainSchemas.{plain_schema, plain_column};
-ghost use Rattle.sql_bound.specs.Columns.{column_ref_of, table_column_of};
+ghost use Rattle.sql_bound.specs.Columns.{column_ref_of, site_of, table_column_of};
 ghost use Rattle.sql_bound.specs.Expressions.{expr_of};
 ghost use Rattle.sql_bound.specs.Statements.{item_of};
 
@@ -17,6 +18,18 @@ use sql_value::{Affinity, Collation};
 pub struct ColumnRef {
     pub item: u32,
     pub column: Option<u32>,
+}
+
+/// Whether two numbers are of the same column of an item; none is the rowid.
+pub fn is_same_column(left: Option<u32>, right: Option<u32>) -> bool
+    ensures { result ≡ same_site (site_of left) (site_of right) }
+{
+    match (left, right) {
+        (None, None) => true,
+        (Some(left), Some(right)) => left == right,
+        (None, Some(_)) => false,
+        (Some(_), None) => false,
+    }
 }
 
 /// What a column owns: what is applied to its values, and the collation that they compare by.
@@ -39,17 +52,7 @@ pub fn plain_column(expr: &BExpr) -> Option<ColumnRef>
             item: *item,
             column: None,
         }),
-        BExpr::Lit(_) => None,
-        BExpr::Param(_) => None,
-        BExpr::Plus(_) => None,
-        BExpr::Collate(..) => None,
-        BExpr::Cmp { .. } => None,
-        BExpr::OneOf { .. } => None,
-        BExpr::Like(..) => None,
-        BExpr::IsNull(..) => None,
-        BExpr::Not(_) => None,
-        BExpr::All(_) => None,
-        BExpr::Any(_) => None,
+        _ => None,
     }
 }
 

@@ -12,7 +12,7 @@ mod placing;
 mod serving;
 mod statement;
 
-pub use columns::{ColumnRef, TableColumn, bare_column, own_column, plain_column};
+pub use columns::{ColumnRef, TableColumn, bare_column, is_same_column, own_column, plain_column};
 pub use expression::{BExpr, BExprs};
 pub use key::{KeyExpr, Keys};
 pub use naming::names_item;

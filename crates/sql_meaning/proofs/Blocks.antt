@@ -7,7 +7,7 @@ use Rattle.std.proofs.lemmas.List.Concat.{flat_map-append}
 use Rattle.std.proofs.lemmas.List.Sorted.{IsPermutation-sym}
 use Rattle.list_laws.specs.Nest.{Distinct, Apart, Rearranges, same, next, swapped, after}
 use Rattle.list_laws.proofs.Bools.{or_false_right, or_false_left, or_later, and_left, and_right}
-use Rattle.list_laws.proofs.Bools.{or_cases, cond_same}
+use Rattle.list_laws.proofs.Bools.{or_cases, cond_same, or_turn, or_assoc}
 use Rattle.list_laws.proofs.Lists.{all_map}
 use Rattle.list_laws.proofs.Nests.{all_reorders}
 use Rattle.list_laws.proofs.Arrangements.{Rearranges-from_permutation}
@@ -83,11 +83,6 @@ offers_back schema bound placed (x ∷ xs) ys (u ∷ us) o =
     offers_back schema bound (x.item ∷ placed) xs ys us o.1
 
 -- what was placed stays placed
-or_turn : (a b c : Bool) → (a || (b || c)) ≡ (b || (a || c))
-or_turn true true c = refl
-or_turn true false c = refl
-or_turn false b c = refl
-
 has_placed : (n : ℕ) (loops : List Loop) (placed : List ℕ)
     → has_number n (placed_by loops placed)
     ≡ (has_number n (loop_items loops) || has_number n placed)
@@ -95,11 +90,7 @@ has_placed n [] placed = refl
 has_placed n (l ∷ ls) placed =
     has_placed n ls (l.item ∷ placed)
     ∙ or_turn (has_number n (loop_items ls)) (n == l.item) (has_number n placed)
-    ∙ or_nest (n == l.item) (has_number n (loop_items ls)) (has_number n placed)
-  where
-    or_nest : (a b c : Bool) → (a || (b || c)) ≡ ((a || b) || c)
-    or_nest true b c = refl
-    or_nest false b c = refl
+    ∙ or_assoc (n == l.item) (has_number n (loop_items ls)) (has_number n placed)
 
 all_in_more : (ns ms os : List ℕ) → ((n : ℕ) → has_number n ms ≡ true → has_number n os ≡ true)
     → all_in ns ms ≡ true → all_in ns os ≡ true

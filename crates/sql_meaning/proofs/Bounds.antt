@@ -13,8 +13,8 @@ use Rattle.sql_meaning.specs.Values.{Value, Null, Int, Dec, Text, Blob, Affinity
 use Rattle.sql_meaning.specs.Values.{Numeric, TextAffinity, BlobAffinity, IsI64, IsBytes, IsValue}
 use Rattle.sql_meaning.specs.Numbers.{read_number, dec_text, fraction_text}
 use Rattle.sql_meaning.specs.Conversions.{with_text_read, narrowed, widened, written, converted}
-use Rattle.sql_meaning.proofs.Reading.{sound, read_is_value, of_decimal, of_fraction, and_left}
-use Rattle.sql_meaning.proofs.Reading.{and_right, signed_size}
+use Rattle.sql_meaning.proofs.Reading.{sound, read_is_value, of_decimal, of_fraction, signed_size}
+use Rattle.list_laws.proofs.Bools.{and_left, and_right}
 
 bytes-append : (xs ys : List ℕ) → IsBytes xs → IsBytes ys → IsBytes (xs ++ ys)
 bytes-append [] ys h k = k

@@ -22,7 +22,7 @@ use Rattle.sql_meaning.specs.IndexLists.{SortColumn}
 use Rattle.sql_meaning.proofs.Terms.{some_is}
 use Rattle.sql_meaning.proofs.TiedPositions.{site_is, collation_is}
 use Rattle.sql_meaning.proofs.Rises.{spot_of, alias_is}
-use Rattle.sql_meaning.proofs.Paths.{all_sort}
+use Rattle.list_laws.proofs.SortedViews.{all_sort}
 
 -- the terms of a column as they are listed: of the column, of the right kind, and each a term of
 -- the item

@@ -13,7 +13,7 @@ use Rattle.std.proofs.lemmas.List.{length-append, length-map}
 use Rattle.list_laws.specs.FirstComing.{has, keep_first}
 use Rattle.list_laws.specs.Order.{sort_by}
 use Rattle.list_laws.proofs.Bools.{or_later, or_first, or_cases, both_true}
-use Rattle.list_laws.proofs.Bools.{alike}
+use Rattle.list_laws.proofs.Bools.{alike, or_assoc}
 use Rattle.list_laws.proofs.Lists.{all_always}
 use Rattle.list_laws.proofs.Orders.{SameTally-sort_by, Ascends-sort_by}
 use Rattle.list_laws.proofs.FirstComings.{has_same, has-keep_first, or_none}
@@ -40,10 +40,6 @@ IsClosed seen p = has_ref p.first seen ≡ has_ref p.second seen
 
 abbrev AreClosed : List Pair → List ColumnRef → Type 0
 AreClosed ps seen = AllByRecursion (IsClosed seen) ps
-
-or_assoc : (a b c : Bool) → (a || (b || c)) ≡ ((a || b) || c)
-or_assoc true b c = refl
-or_assoc false b c = refl
 
 has_join : (x : ColumnRef) (xs ys : List ColumnRef)
     → has_ref x (xs ++ ys) ≡ (has_ref x xs || has_ref x ys)

@@ -6,7 +6,8 @@ use Rattle.std.proofs.Common.{◌≢◌}
 use Rattle.std.proofs.lemmas.Bool.{eqb-true, eq-eqb}
 use Rattle.list_laws.specs.Nest.{kept}
 use Rattle.list_laws.proofs.Lists.{all_map}
-use Rattle.list_laws.proofs.Bools.{and_left, both_true, and_right, or_cases}
+use Rattle.list_laws.proofs.Bools.{and_left, both_true, and_right, or_cases, or_assoc}
+use Rattle.list_laws.proofs.Bools.{or_false_left, or_false_right, never_true}
 use Rattle.sql_meaning.specs.Values.{Value}
 use Rattle.sql_meaning.specs.Rows.{Assignment}
 use Rattle.sql_meaning.specs.Schemas.{Schema, Database}
@@ -60,10 +61,6 @@ pub has_append : (n : ℕ) (ms ns : List ℕ)
 has_append n [] ns = refl
 has_append n (m ∷ ms) ns =
     rw (has_append n ms ns) (or_assoc (n == m) (has_number n ms) (has_number n ns))
-  where
-    or_assoc : (a b c : Bool) → (a || (b || c)) ≡ ((a || b) || c)
-    or_assoc true b c = refl
-    or_assoc false b c = refl
 
 common_not_owned : (item : ℕ) (o : Option ℕ) → no_owner o ≡ true → owned_by item o ≡ false
 common_not_owned item None h = refl
@@ -141,7 +138,7 @@ first_common placed item ns (Some owner) h f = absurd (cc)
 abbrev pub Covered : List ℕ → List ℕ → List ℕ → Type 0
 Covered ns placed rest = AllByRecursion (λ n. (has_number n placed || has_number n rest) ≡ true) ns
 
-covered_next : (ns : List ℕ) (item : ℕ) (placed rest : List ℕ) → Covered ns placed (item ∷ rest)
+pub covered_next : (ns : List ℕ) (item : ℕ) (placed rest : List ℕ) → Covered ns placed (item ∷ rest)
     → Covered ns (item ∷ placed) rest
 covered_next ns item placed rest h =
     all_map _ _ ns (λ n e. turn (n == item) (has_number n placed) (has_number n rest) e) h
@@ -150,7 +147,7 @@ covered_next ns item placed rest h =
     turn true p r h = refl
     turn false p r h = h
 
-covered_all : (ns placed : List ℕ) → Covered ns placed [] → all_in ns placed ≡ true
+pub covered_all : (ns placed : List ℕ) → Covered ns placed [] → all_in ns placed ≡ true
 covered_all [] placed h = refl
 covered_all (n ∷ ns) placed h =
     both_true _ _ (or_none (has_number n placed) h.0) (covered_all ns placed h.1)
@@ -165,29 +162,18 @@ unnamed : (ns : List ℕ) (item : ℕ) (placed : List ℕ) → has_number item n
 unnamed [] item placed h e = refl
 unnamed (n ∷ ns) item placed h e =
     let apart : (n == item) ≡ false =
-    not_same n item (or_left (item == n) (has_number item ns) h) in
+    not_same n item (or_false_left (item == n) (has_number item ns) h) in
     both_true _ _
     (ap (λ b. b || has_number n placed) (sym apart) ∙ and_left _ (all_in ns (item ∷ placed)) e)
-    (unnamed ns item placed (or_right (item == n) (has_number item ns) h)
+    (unnamed ns item placed (or_false_right (item == n) (has_number item ns) h)
     (and_right (has_number n (item ∷ placed)) _ e))
   where
-    or_left : (a b : Bool) → (a || b) ≡ false → a ≡ false
-    or_left true b h = h
-    or_left false b h = refl
-
-    or_right : (a b : Bool) → (a || b) ≡ false → b ≡ false
-    or_right true b h = absurd (cc)
-    or_right false b h = h
-
     not_same : (n m : ℕ) → (m == n) ≡ false → (n == m) ≡ false
     not_same n m e =
-        not_case (n == m) (λ t. let yes : (m == n) ≡ true = eq-eqb m n (sym (eqb-true n m t)) in cc)
-      where
-        not_case : (b : Bool) → (b ≡ true → ⊥) → b ≡ false
-        not_case true f = absurd (f refl)
-        not_case false f = refl
+        never_true (n == m)
+        (λ t. let yes : (m == n) ≡ true = eq-eqb m n (sym (eqb-true n m t)) in cc)
 
-named_case : (ns : List ℕ) (item : ℕ) (placed : List ℕ) → all_in ns (item ∷ placed) ≡ true
+pub named_case : (ns : List ℕ) (item : ℕ) (placed : List ℕ) → all_in ns (item ∷ placed) ≡ true
     → all_in ns placed ≡ false → (b : Bool) → has_number item ns ≡ b → b ≡ true
 named_case ns item placed e h true f = refl
 named_case ns item placed e h false f =
@@ -235,11 +221,11 @@ pub empty_first : (item : ℕ) (ns : List ℕ) → is_empty ns ≡ true → comm
 empty_first item [] h = refl
 empty_first item (n ∷ ns) h = absurd (cc)
 
-some_named : (ns : List ℕ) → is_empty ns ≡ false → all_in ns [] ≡ false
+pub some_named : (ns : List ℕ) → is_empty ns ≡ false → all_in ns [] ≡ false
 some_named [] h = absurd (cc)
 some_named (n ∷ ns) h = refl
 
-covered_start : (ns rest : List ℕ) → all_in ns rest ≡ true → Covered ns [] rest
+pub covered_start : (ns rest : List ℕ) → all_in ns rest ≡ true → Covered ns [] rest
 covered_start [] rest h = tt
 covered_start (n ∷ ns) rest h =
     (and_left _ _ h, covered_start ns rest (and_right (has_number n rest) _ h))

@@ -8,11 +8,12 @@ use Rattle.std.proofs.Common.{List, [], ◌∷◌, ◌≡◌, refl, ◌∙◌, �
 use Rattle.std.proofs.Common.{subst, ◌++◌, ◌||◌}
 use Rattle.std.proofs.lemmas.Cmp.{on_total, then_total, int_cmp_total, eq_by_cmp_equiv}
 use Rattle.std.proofs.lemmas.List.Elements.{filter_agree}
-use Rattle.list_laws.specs.Order.{Ascends, sort_by}
+use Rattle.list_laws.specs.Order.{Ascends}
 use Rattle.list_laws.specs.Tally.{SameTally, tally}
 use Rattle.list_laws.specs.FirstComing.{keep_first}
 use Rattle.list_laws.proofs.Lists.{all_map, all_filter, all_append}
-use Rattle.list_laws.proofs.Orders.{Ascends-sort_by, SameTally-sort_by, all_insert}
+use Rattle.list_laws.proofs.Orders.{Ascends-sort_by, SameTally-sort_by}
+use Rattle.list_laws.proofs.SortedViews.{all_sort}
 use Rattle.list_laws.proofs.Tallies.{SameTally-refl, SameTally-filter}
 use Rattle.list_laws.proofs.FirstComings.{all_keep}
 use Rattle.list_laws.proofs.Unions.{AreApart, once_from_apart, Branch, any_used, AreBranches}
@@ -106,11 +107,6 @@ plain_same schema params path rows env h e =
           (list_same schema path rows)).each
           f;
     }
-
-pub all_sort : {X : Type 0} (P : X → Type 0) (cmp : X → X → Ordering) (xs : List X)
-    → AllByRecursion P xs → AllByRecursion P (sort_by cmp xs)
-all_sort P cmp [] h = tt
-all_sort P cmp (x ∷ xs) h = all_insert P cmp x (sort_by cmp xs) h.0 (all_sort P cmp xs h.1)
 
 -- what is true of all rows is true of the path's list
 pub all_list : (P : Row → Type 0) (schema : Schema) (path : Path) (rows : List Row)

@@ -13,6 +13,7 @@ use Rattle.std.specs.List.{position_or_len}
 use Rattle.std.proofs.lemmas.Str.Parse.{IsNumeralModel, numerals_by_fold, digits_value_short}
 use Rattle.std.proofs.lemmas.List.{length-append, take_at, append-nil}
 use Rattle.std.proofs.lemmas.Fmt.{digits_decimal, digits_value-decimal, decimal_nonempty}
+use Rattle.list_laws.proofs.Bools.{and_left, and_right}
 use Rattle.sql_meaning.specs.Values.{Value, IsValue, Int, Dec, IsI64}
 use Rattle.sql_meaning.specs.Numbers.{Digits, Sign, bare, plus, minus, ReadsAs, whole, pointed}
 use Rattle.sql_meaning.specs.Numbers.{digits_behind, digits_up_to, signed, last_digit_units}
@@ -38,14 +39,6 @@ upto_is most n [] d h = absurd (omega (arith, d.some))
 upto_is most n (c ∷ cs) d h =
     chosen (all_ascii_digits (c ∷ cs)) (digits_behind 0 (c ∷ cs)) most d.all (rw d.value h)
     ∙ ap Some d.value
-
-pub and_left : (a b : Bool) → (a && b) ≡ true → a ≡ true
-and_left true b e = refl
-and_left false b e = absurd (cc)
-
-pub and_right : (a b : Bool) → (a && b) ≡ true → b ≡ true
-and_right true b e = e
-and_right false b e = absurd (cc)
 
 not_point : (c : ℕ) → is_ascii_digit c ≡ true → is_point c ≡ false
 not_point c h = grind arith

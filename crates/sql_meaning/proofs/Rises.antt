@@ -25,7 +25,8 @@ use Rattle.sql_meaning.specs.Paths.{EqPart, same_rowid, IndexScan, Path, TableSc
 use Rattle.sql_meaning.specs.Paths.{RowidRange, IndexSeek, Union, path_list, is_union, walk}
 use Rattle.sql_meaning.specs.Paths.{carried}
 use Rattle.sql_meaning.specs.Plans.{directed_walk}
-use Rattle.sql_meaning.proofs.Paths.{same_rowid_equiv, rising_apart, rowid_less, all_sort}
+use Rattle.sql_meaning.proofs.Paths.{same_rowid_equiv, rising_apart, rowid_less}
+use Rattle.list_laws.proofs.SortedViews.{all_sort}
 use Rattle.sql_meaning.proofs.Paths.{entry_cmp_total, all_list, walk_is}
 use Rattle.sql_meaning.proofs.Seeks.{is_eq_reverse}
 use Rattle.sql_meaning.proofs.Scaled.{scaled_cmp}

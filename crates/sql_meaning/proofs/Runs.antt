@@ -12,7 +12,7 @@ use Rattle.sql_meaning.specs.Numbers.{Sign, bare, plus, minus}
 use Rattle.sql_meaning.specs.Truth.{without_sign, front_digits, without_digits, digits_behind_point}
 use Rattle.sql_meaning.specs.Truth.{number_digits, is_nonzero, Point, missing, there, NumberRun}
 use Rattle.sql_meaning.specs.Truth.{run_of, HasNonzeroRun, is_true_text}
-use Rattle.sql_meaning.proofs.Reading.{and_left, and_right}
+use Rattle.list_laws.proofs.Bools.{and_left, and_right}
 
 -- lists of which some part has a digit that isn't 0
 any_left : (xs ys : List ℕ) → list_any is_nonzero xs ≡ true → list_any is_nonzero (xs ++ ys) ≡ true

@@ -2,13 +2,14 @@
 use Rattle.std.specs.declared.cmp.Ordering.{Ordering}
 use Rattle.std.specs.Cmp.{IsTotalOrder}
 use Rattle.std.specs.declared.cmp.Ordering.TheVariants.{Less, Equal as Ties, Greater}
-use Rattle.std.specs.Ordering.{is_eq, is_le, ordering_reverse, is_gt, is_lt, is_ge, on}
+use Rattle.std.specs.Ordering.{is_eq, is_le, ordering_reverse, is_gt, is_lt, is_ge, on, flip_args}
 use Rattle.std.specs.List.{filter, flat_map}
 use Rattle.std.proofs.Common.{Bool, true, false, ◌≡◌, refl, cond, Some, None, ap, ◌||◌, List, []}
 use Rattle.std.proofs.Common.{◌∷◌, ◌∙◌, ◌&&◌, not, arith, sym, Option}
 use Rattle.std.proofs.lemmas.Cmp.{back_total}
 use Rattle.std.proofs.lemmas.List.Elements.{filter_agree}
 use Rattle.list_laws.specs.Order.{Ascends, sort_by}
+use Rattle.list_laws.specs.Stretch.{Rises}
 use Rattle.list_laws.proofs.Bools.{or_false_right, or_false_left}
 use Rattle.list_laws.proofs.Orders.{not_below_up, above_up, Rises-from_order, stretch_at}
 use Rattle.list_laws.proofs.Orders.{Ascends-at, Ascends-first, Ascends-sort_by}
@@ -170,6 +171,41 @@ and_turn true false = refl
 and_turn false true = refl
 and_turn false false = refl
 
+-- along a list in order, what is not below a range stays so, and what is above it too
+pub Rises-not_below_range : (collation : Collation) (site : Site) (low : Option End)
+    (rows : List Row)
+    → Ascends (on (site_value site) (value_cmp collation)) rows
+    → Rises (λ row. not (is_below collation low (site_value site row))) rows
+Rises-not_below_range collation site low =
+    Rises-from_order _ _
+    (λ x y le p. below_up collation low (site_value site x) (site_value site y) le p)
+
+pub Rises-above_range : (collation : Collation) (site : Site) (high : Option End) (rows : List Row)
+    → Ascends (on (site_value site) (value_cmp collation)) rows
+    → Rises (λ row. is_above collation high (site_value site row)) rows
+Rises-above_range collation site high =
+    Rises-from_order _ _
+    (λ x y le p. above_up_end collation high (site_value site x) (site_value site y) le p)
+
+-- along a list that falls, the other way round
+pub Rises-not_above_range : (collation : Collation) (site : Site) (high : Option End)
+    (rows : List Row)
+    → Ascends (on (site_value site) (flip_args (value_cmp collation))) rows
+    → Rises (λ row. not (is_above collation high (site_value site row))) rows
+Rises-not_above_range collation site high =
+    Rises-from_order _ _
+    (λ x y le p. contra _ _
+    (above_up_end collation high (site_value site y) (site_value site x) le) p)
+
+pub Rises-below_range : (collation : Collation) (site : Site) (low : Option End) (rows : List Row)
+    → Ascends (on (site_value site) (flip_args (value_cmp collation))) rows
+    → Rises (λ row. is_below collation low (site_value site row)) rows
+Rises-below_range collation site low =
+    Rises-from_order _ _
+    (λ x y le p. not_not _
+    (contra _ _ (below_up collation low (site_value site y) (site_value site x) le)
+    (to_not_not _ p)))
+
 range_is : (falling : Bool) (collation : Collation) (site : Site) (low high : Option End)
     (rows : List Row)
     → Ascends (on (site_value site) (directed falling (value_cmp collation))) rows
@@ -180,23 +216,16 @@ range_is : (falling : Bool) (collation : Collation) (site : Site) (low high : Op
 range_is true collation site low high rows h =
     stretch_is (λ row. is_above collation high (site_value site row))
     (λ row. is_below collation low (site_value site row)) rows
-    (Rises-from_order _ _
-    (λ x y le p. contra _ _
-    (above_up_end collation high (site_value site y) (site_value site x) le) p) rows h)
-    (Rises-from_order _ _
-    (λ x y le p. not_not _
-    (contra _ _ (below_up collation low (site_value site y) (site_value site x) le)
-    (to_not_not _ p))) rows h)
+    (Rises-not_above_range collation site high rows h)
+    (Rises-below_range collation site low rows h)
     ∙ filter_agree _ _
     (λ row. and_turn (is_above collation high (site_value site row))
     (is_below collation low (site_value site row))) rows
 range_is false collation site low high rows h =
     stretch_is (λ row. is_below collation low (site_value site row))
     (λ row. is_above collation high (site_value site row)) rows
-    (Rises-from_order _ _
-    (λ x y le p. below_up collation low (site_value site x) (site_value site y) le p) rows h)
-    (Rises-from_order _ _
-    (λ x y le p. above_up_end collation high (site_value site x) (site_value site y) le p) rows h)
+    (Rises-not_below_range collation site low rows h)
+    (Rises-above_range collation site high rows h)
 
 -- a value within a range is one of which the bounds are true
 low_case : (nv nk incl : Bool) (o : Ordering) → nk ≡ false

@@ -1,9 +1,9 @@
 -- Which items a conjunct names that a path consumes: its own item, and items that are placed.
 use Rattle.std.specs.List.{AllByRecursion}
-use Rattle.std.proofs.Common.{◌≡◌, ◌≢◌, ℕ, Bool, true, false, ◌&&◌, ◌==◌, List, [], ◌∷◌, ◌++◌}
+use Rattle.std.proofs.Common.{◌≡◌, ◌≢◌, ℕ, true, ◌==◌, List, [], ◌∷◌, ◌++◌}
 use Rattle.std.proofs.Common.{Option, Some, None, refl, ap, sym, ◌∙◌, subst, slice_get, inl, inr}
 use Rattle.std.proofs.lemmas.Bool.{eq-eqb}
-use Rattle.list_laws.proofs.Bools.{or_later, or_first, both_true}
+use Rattle.list_laws.proofs.Bools.{or_later, or_first, both_true, and_left, and_right}
 use Rattle.list_laws.proofs.Lists.{all_append}
 use Rattle.sql_meaning.specs.Values.{Collation, Affinity}
 use Rattle.sql_meaning.specs.Rows.{Site}
@@ -58,16 +58,8 @@ all_in_both : (xs ys ms : List ℕ) → all_in xs ms ≡ true → all_in ys ms �
     → all_in (xs ++ ys) ms ≡ true
 all_in_both [] ys ms h k = k
 all_in_both (x ∷ xs) ys ms h k =
-    both_true _ _ (first (has_number x ms) (all_in xs ms) h)
-    (all_in_both xs ys ms (second (has_number x ms) (all_in xs ms) h) k)
-  where
-    first : (a b : Bool) → (a && b) ≡ true → a ≡ true
-    first true b h = refl
-    first false b h = h
-
-    second : (a b : Bool) → (a && b) ≡ true → b ≡ true
-    second true b h = h
-    second false b h = absurd (cc)
+    both_true _ _ (and_left (has_number x ms) (all_in xs ms) h)
+    (all_in_both xs ys ms (and_right (has_number x ms) (all_in xs ms) h) k)
 
 -- the item's column on the left, and keys on the right; or the other way round
 from_left : (item : ℕ) (placed ns : List ℕ) → AllByRecursion (λ i. has_number i placed ≡ true) ns

@@ -8,7 +8,7 @@ use Rattle.std.proofs.lemmas.Bool.{eqb-true, eq-eqb}
 use Rattle.list_laws.specs.Order.{sort_by}
 use Rattle.list_laws.proofs.Lists.{all_from_at, all_flat_map, all_append, all_filter}
 use Rattle.list_laws.proofs.FirstComings.{all_keep}
-use Rattle.list_laws.proofs.Bools.{and_left, and_right}
+use Rattle.list_laws.proofs.Bools.{and_left, and_right, both_true}
 use Rattle.sql_meaning.specs.Values.{Affinity}
 use Rattle.sql_meaning.specs.Values.{Collation}
 use Rattle.sql_meaning.specs.Links.{affinity_class, Linked, link, chain, back}
@@ -21,7 +21,7 @@ use Rattle.sql_meaning.specs.Schemas.{Schema}
 use Rattle.sql_meaning.specs.Items.{Item, own_column}
 use Rattle.sql_meaning.specs.Rows.{Site, AtRowid, AtColumn}
 use Rattle.sql_meaning.proofs.TiedPositions.{site_is, collation_is}
-use Rattle.sql_meaning.proofs.Paths.{all_sort}
+use Rattle.list_laws.proofs.SortedViews.{all_sort}
 
 pub ref_is : (c d : ColumnRef) → same_ref c d ≡ true → c ≡ d
 ref_is c d h =
@@ -160,12 +160,9 @@ visits_are schema items es c (suc n) (d ∷ next) ps l h = (
 
 pub itself : (c : ColumnRef) → same_ref c c ≡ true
 itself c =
-    both (c.item == c.item) (same_site c.site c.site) (eq-eqb c.item c.item refl)
+    both_true (c.item == c.item) (same_site c.site c.site) (eq-eqb c.item c.item refl)
     (site_itself c.site)
   where
-    both : (a b : Bool) → a ≡ true → b ≡ true → (a && b) ≡ true
-    both a b h k = rw h k
-
     site_itself : (s : Site) → same_site s s ≡ true
     site_itself AtRowid = refl
     site_itself (AtColumn n) = eq-eqb n n refl

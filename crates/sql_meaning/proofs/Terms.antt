@@ -4,7 +4,7 @@ use Rattle.std.specs.declared.cmp.Ordering.TheVariants.{Less, Equal as Ties, Gre
 use Rattle.std.specs.Ordering.{ordering_reverse}
 use Rattle.std.proofs.Common.{◌≡◌, Some, List, ap, Bool, true, false, Option, None, refl, ◌||◌}
 use Rattle.std.proofs.Common.{cond, ◌∙◌, ℕ, inl, inr, map, [], ◌∷◌, sym, ℤ, ◌&&◌, ◌++◌}
-use Rattle.list_laws.proofs.Bools.{and_none}
+use Rattle.list_laws.proofs.Bools.{and_none, and_assoc}
 use Rattle.sql_meaning.specs.Values.{Value, Collation, value_cmp, is_null, Affinity, Null, Int, Dec}
 use Rattle.sql_meaning.specs.Values.{Text, Blob}
 use Rattle.sql_meaning.specs.Truth.{truth3}
@@ -289,10 +289,6 @@ true-append env params (t ∷ ts) us row =
     rw (true-append env params ts us row)
     (and_assoc (kind_holds env params t.collation t.kind (site_value t.column row))
     (terms_true env params ts row) (terms_true env params us row))
-  where
-    and_assoc : (a b c : Bool) → (a && (b && c)) ≡ ((a && b) && c)
-    and_assoc true b c = refl
-    and_assoc false b c = refl
 
 -- what a path carries is true of a row exactly where its used terms are
 pub carries_is : (env : Assignment) (params : List Value) (alias : Option ℕ) (ss : List SortColumn)

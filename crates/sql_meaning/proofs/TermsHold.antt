@@ -4,6 +4,7 @@ use Rattle.std.proofs.Common.{◌≡◌, Bool, true, false, ◌&&◌, refl, ℕ,
 use Rattle.std.proofs.Common.{ap₂, cond, ◌∙◌, Option, Some, sym, ◌++◌, not, suc, zero, subst, inl}
 use Rattle.std.proofs.Common.{inr}
 use Rattle.list_laws.proofs.Bools.{and_none, and_left, and_right, both_true, or_first}
+use Rattle.list_laws.proofs.Bools.{and_assoc}
 use Rattle.list_laws.proofs.Lists.{all_append}
 use Rattle.sql_meaning.specs.Statements.{Conjunct, chosen_hold, exprs_of, Bound, FitsStatement}
 use Rattle.sql_meaning.specs.Values.{Value}
@@ -43,10 +44,6 @@ all-append env params [] ys = refl
 all-append env params (x ∷ xs) ys =
     rw (all-append env params xs ys)
     (and_assoc (holds env params x) (all_hold_of env params xs) (all_hold_of env params ys))
-  where
-    and_assoc : (a b c : Bool) → (a && (b && c)) ≡ ((a && b) && c)
-    and_assoc true b c = refl
-    and_assoc false b c = refl
 
 mutual
   pub flat_holds : (env : Assignment) (params : List Value) (e : BExpr)

@@ -1,8 +1,8 @@
 -- Where a word stands in a text.
 use Rattle.std.proofs.Common.{◌≡◌, ℕ, ◌<◌, Bool, true, false, ◌||◌, ◌==◌, ◌↔◌, List, [], ◌∷◌}
 use Rattle.std.proofs.Common.{◌++◌, length, refl, ap, ap₂, arith}
+use Rattle.list_laws.proofs.Bools.{and_left, and_right, or_first, or_later}
 use Rattle.sql_meaning.specs.DeclaredTypes.{begins_with, holds_word}
-use Rattle.sql_meaning.proofs.Reading.{and_left, and_right}
 
 -- the text has the word between these two parts
 abbrev StandsIn : List ℕ → List ℕ → Type 0
@@ -40,18 +40,11 @@ begins_itself : (word back : List ℕ) → begins_with word (word ++ back) ≡ t
 begins_itself [] back = refl
 begins_itself (w ∷ ws) back = rw (itself w, begins_itself ws back) refl
 
-or_left : (a b : Bool) → a ≡ true → (a || b) ≡ true
-or_left a b e = rw e refl
-
-or_right : (a b : Bool) → b ≡ true → (a || b) ≡ true
-or_right true b e = refl
-or_right false b e = e
-
 held : (w : ℕ) (ws front back : List ℕ) → holds_word (w ∷ ws) (front ++ ((w ∷ ws) ++ back)) ≡ true
 held w ws [] back =
-    or_left (begins_with (w ∷ ws) ((w ∷ ws) ++ back)) _ (begins_itself (w ∷ ws) back)
+    or_first (begins_with (w ∷ ws) ((w ∷ ws) ++ back)) _ (begins_itself (w ∷ ws) back)
 held w ws (f ∷ fs) back =
-    or_right (begins_with (w ∷ ws) (f ∷ (fs ++ ((w ∷ ws) ++ back)))) _ (held w ws fs back)
+    or_later (begins_with (w ∷ ws) (f ∷ (fs ++ ((w ∷ ws) ++ back)))) _ (held w ws fs back)
 
 pub held_exactly : (word text : List ℕ) → 0 < length word
     → (holds_word word text ≡ true) ↔ ((front : List ℕ) × (back : List ℕ)

@@ -1,17 +1,12 @@
 -- A scope with an item more.
-use Rattle.std.proofs.Common.{◌≡◌, ◌<◌, ℕ, false, length, List, [], ◌∷◌, ◌++◌}
+use Rattle.std.proofs.Common.{◌≡◌, ◌<◌, ℕ, false, length, List, []}
 use Rattle.std.proofs.Common.{ap, sym, subst, ◌∙◌, arith}
-use Rattle.std.specs.List.{AllByRecursion}
 use Rattle.std.proofs.lemmas.List.{length_push, append-nil}
+use Rattle.list_laws.proofs.Lists.{all_push}
 use Rattle.sql_meaning.specs.Items.{Item}
 use Rattle.schema_model.specs.Names.{has_name, Differ}
 use Rattle.schema_model.proofs.Sound.{differ_between}
 use Rattle.sql_names.specs.Scopes.{Scope, IsScope, with_item}
-
-all_push : {X : Type 0} (P : X → Type 0) (xs : List X) (y : X) → AllByRecursion P xs → P y
-    → AllByRecursion P (xs ++ y ∷ [])
-all_push P [] y a p = (p, tt)
-all_push P (x ∷ xs) y a p = (a.0, all_push P xs y a.1 p)
 
 pub with_item_is_scope : (scope : Scope) (name : List ℕ) (item : Item) → IsScope scope
     → has_name name scope.names ≡ false → length scope.items < 64

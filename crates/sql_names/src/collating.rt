@@ -32,16 +32,7 @@ pub(crate) fn affinity(scope: &Scope, expr: &BExpr) -> Option<Affinity>
         BExpr::Column { item, column } => Some(own_at(scope, *item, Some(*column)).affinity),
         BExpr::Rowid { .. } => Some(Affinity::Integer),
         BExpr::Collate(inner, _) => affinity(scope, inner),
-        BExpr::Lit(_) => None,
-        BExpr::Param(_) => None,
-        BExpr::Plus(_) => None,
-        BExpr::Cmp { .. } => None,
-        BExpr::OneOf { .. } => None,
-        BExpr::Like(..) => None,
-        BExpr::IsNull(..) => None,
-        BExpr::Not(_) => None,
-        BExpr::All(_) => None,
-        BExpr::Any(_) => None,
+        _ => None,
     }
 }
 
@@ -91,15 +82,7 @@ fn own_collation(scope: &Scope, expr: &BExpr) -> Option<Collation>
         BExpr::Rowid { .. } => Some(Collation::Binary),
         BExpr::Plus(inner) => own_collation(scope, inner),
         BExpr::Collate(inner, _) => own_collation(scope, inner),
-        BExpr::Lit(_) => None,
-        BExpr::Param(_) => None,
-        BExpr::Cmp { .. } => None,
-        BExpr::OneOf { .. } => None,
-        BExpr::Like(..) => None,
-        BExpr::IsNull(..) => None,
-        BExpr::Not(_) => None,
-        BExpr::All(_) => None,
-        BExpr::Any(_) => None,
+        _ => None,
     }
 }
 

@@ -163,17 +163,7 @@ fn is_right_of(owner: Option<u32>, denoted: &BExpr) -> bool
     match denoted {
         BExpr::Column { item, .. } => owner < *item,
         BExpr::Rowid { item } => owner < *item,
-        BExpr::Lit(_) => false,
-        BExpr::Param(_) => false,
-        BExpr::Plus(_) => false,
-        BExpr::Collate(..) => false,
-        BExpr::Cmp { .. } => false,
-        BExpr::OneOf { .. } => false,
-        BExpr::Like(..) => false,
-        BExpr::IsNull(..) => false,
-        BExpr::Not(_) => false,
-        BExpr::All(_) => false,
-        BExpr::Any(_) => false,
+        _ => false,
     }
 }
 

@@ -13,7 +13,7 @@ mod reserved;
 mod types;
 mod values;
 
-pub use collations::collation_named;
+pub use collations::{collation_named, is_same_collation};
 pub use condition::truth;
 pub use conversion::{apply, conversions, convert};
 pub use items::{Bytes, Items, Memory, push};

@@ -1,6 +1,9 @@
 //! What statements are bound to.
-ghost use Rattle.std.specs.Prelude.{◌≡◌, ◌<◌, length, true, false};
+ghost use Rattle.std.specs.Prelude.{◌≡◌, ◌<◌, length, true, false, IfOk, IfSome};
+ghost use Rattle.schema_model.specs.PlainSchemas.{plain_schema};
 ghost use Rattle.sql_tree.specs.Statements.{statement_tree};
+ghost use Rattle.sql_bound.specs.Fits.{Fits};
+ghost use Rattle.sql_bound.specs.Statements.{bound_of, needs_of};
 ghost use Rattle.sql_bind.specs.Clauses.{sources_of};
 ghost use Rattle.sql_bind.specs.Sources.{begins_left};
 
@@ -47,26 +50,42 @@ pub(crate) fn is_bindable(stmt: &Stmt) -> bool
     }
 }
 
-/// Whether a statement is bound to this.
-fn is_bound_to(alloc: Global, schema: &Schema, text: &[u8], want: &[u8]) -> Result<bool, Memory> {
+/// What a statement is bound to; none where it is no statement, or isn't bound.
+pub(crate) fn bound_from<'p>(
+    alloc: Global,
+    arena: &'p Bump,
+    schema: &Schema,
+    text: &'p [u8],
+) -> Result<Option<Bound<'p>>, Memory>
+    ensures { IfOk result (λ found. IfSome found (λ bound.
+        Fits (plain_schema schema.now) (bound_of bound) (needs_of bound))) }
+{
     if text.len() > 10_000 {
-        return Ok(false);
+        return Ok(None);
     }
     let tokens = lex(alloc, text)?;
     let run = tokens.as_slice();
     if run.len() > 10_000 {
-        return Ok(false);
+        return Ok(None);
     }
-    let arena = Bump::new(alloc);
-    let Ok(stmt) = parse(alloc, &arena, text, run) else {
-        return Ok(false);
+    let Ok(stmt) = parse(alloc, arena, text, run) else {
+        return Ok(None);
     };
     if !is_bindable(&stmt) {
-        return Ok(false);
+        return Ok(None);
     }
-    match bind(alloc, &arena, schema, &stmt) {
-        Ok(bound) => is_shown_as(alloc, &bound, want),
-        Err(_) => Ok(false),
+    match bind(alloc, arena, schema, &stmt) {
+        Ok(bound) => Ok(Some(bound)),
+        Err(_) => Ok(None),
+    }
+}
+
+/// Whether a statement is bound to this.
+fn is_bound_to(alloc: Global, schema: &Schema, text: &[u8], want: &[u8]) -> Result<bool, Memory> {
+    let arena = Bump::new(alloc);
+    match bound_from(alloc, &arena, schema, text)? {
+        Some(bound) => is_shown_as(alloc, &bound, want),
+        None => Ok(false),
     }
 }
 

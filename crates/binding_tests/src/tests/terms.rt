@@ -1,13 +1,10 @@
 //! Which conjunct serves which column.
-use super::binding::is_bindable;
+use super::binding::bound_from;
 use super::shown::{affinity_letter, append_digit, append_expr, collation_letter};
 use bumpalo::Bump;
 use schema_model::Schema;
 use schema_read::read_dump;
-use sql_bind::bind;
 use sql_bound::KeyExpr;
-use sql_lex::lex;
-use sql_parse::parse;
 use sql_value::{Bytes, Memory};
 use std::alloc::Global;
 use std::test::Fail;
@@ -114,22 +111,8 @@ fn append_item(shown: &mut Bytes, item: &ItemTerms) -> Result<(), Memory> {
 
 /// Whether a statement has these terms.
 fn has_terms(alloc: Global, schema: &Schema, text: &[u8], want: &[u8]) -> Result<bool, Memory> {
-    if text.len() > 10_000 {
-        return Ok(false);
-    }
-    let tokens = lex(alloc, text)?;
-    let run = tokens.as_slice();
-    if run.len() > 10_000 {
-        return Ok(false);
-    }
     let arena = Bump::new(alloc);
-    let Ok(stmt) = parse(alloc, &arena, text, run) else {
-        return Ok(false);
-    };
-    if !is_bindable(&stmt) {
-        return Ok(false);
-    }
-    let Ok(bound) = bind(alloc, &arena, schema, &stmt) else {
+    let Some(bound) = bound_from(alloc, &arena, schema, text)? else {
         return Ok(false);
     };
     let list = terms(alloc, &arena, schema, &bound)?;

@@ -4,7 +4,6 @@ use Rattle.std.specs.List.{flat_map}
 use Rattle.std.proofs.lemmas.List.{length-map}
 use Rattle.list_laws.specs.Nest.{nested}
 use Rattle.sql_meaning.specs.Rows.{Assignment}
-use Rattle.sql_meaning.specs.Expressions.{BExpr}
 use Rattle.sql_meaning.specs.Statements.{is_left, item_rows, numbers_from}
 use Rattle.sql_value.specs.View.{plain_value}
 use Rattle.schema_model.specs.PlainSchemas.{plain_database}
@@ -15,9 +14,8 @@ use Rattle.sql_eval.specs.Environments.{placed}
 use Rattle.sql_eval.specs.declared.environment.Place.{Place}
 use Rattle.bound_rows.specs.Levels.{due_exprs, items_before, item_steps, with_rows, level_rows}
 use Rattle.bound_rows.specs.Places.{AllFit, assignments, held, empty_places}
-use Rattle.bound_rows.specs.Readable.{AreReadable, lent_exprs}
-use Rattle.bound_rows.proofs.LevelTests.{due_readable}
-use Rattle.bound_rows.proofs.Testing.{testable, empty_fit, empty_placed, flat_one, flat_last, item_taken}
+use Rattle.bound_rows.specs.Readable.{lent_exprs}
+use Rattle.bound_rows.proofs.Testing.{due_testable, empty_fit, empty_placed, flat_one, flat_last, item_taken}
 use Rattle.bound_rows.proofs.Testing.{before_next, table_there, no_marks}
 use Rattle.bound_rows.proofs.filter.all_rows.Goals as goal
 
@@ -47,27 +45,14 @@ loop-number-init c =
 
 pub with_each_row-requires-clause-level : goal.with_each_row-requires-clause-level
 with_each_row-requires-clause-level c =
-    let database = plain_database c.args.source.now.tables.now in
-    let params = map plain_value c.args.source.now.params.now in
     let bound = c.args.bound.now in
-    let items = bound.items.now in
-    let total = length (map item_of items) in
     let n = c.loop-number.number in
-    let level = c.in_ok-level.level in
-    let below : n < length items = omega arith in
-    let owned : lent_exprs level.owned.items
-    ≡ due_exprs true [] (items_before n) n 0 (bound_of bound).conjuncts =
-    c.in_ok-level.ensures.owned (items_before n) [] c.loop-number.invariant.placed no_marks in
-    let shared : lent_exprs level.common.items
-    ≡ due_exprs false [] (items_before n) n 0 (bound_of bound).conjuncts =
-    c.in_ok-level.ensures.common (items_before n) [] c.loop-number.invariant.placed no_marks in
-    testable database level bound n c.in_ok-level.ensures.bound c.in_ok-level.ensures.item below
-    (subst (λ (es : List BExpr). AreReadable database (bound_of bound).items es) (sym owned)
-    (due_readable database (bound_of bound).items true [] (items_before n) n 0
-    (bound_of bound).conjuncts c.requires.readable.conjuncts))
-    (subst (λ (es : List BExpr). AreReadable database (bound_of bound).items es) (sym shared)
-    (due_readable database (bound_of bound).items false [] (items_before n) n 0
-    (bound_of bound).conjuncts c.requires.readable.conjuncts))
+    let level = c.in_ok-level in
+    due_testable (plain_database c.args.source.now.tables.now) level.level bound [] (items_before n) n
+    level.ensures.bound level.ensures.item (omega arith)
+    (level.ensures.owned (items_before n) [] c.loop-number.invariant.placed no_marks)
+    (level.ensures.common (items_before n) [] c.loop-number.invariant.placed no_marks)
+    c.requires.readable.conjuncts
 
 pub with_each_row-requires-clause-lists : goal.with_each_row-requires-clause-lists
 with_each_row-requires-clause-lists c =

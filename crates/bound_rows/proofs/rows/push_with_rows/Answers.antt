@@ -10,7 +10,7 @@ use Rattle.bound_rows.specs.Levels.{all_true, with_rows}
 use Rattle.bound_rows.specs.Places.{FitPlaces, held, row_at, rows_at, assignments}
 use Rattle.bound_rows.specs.Readable.{lent_exprs}
 use Rattle.bound_rows.specs.Tested.{level_table}
-use Rattle.bound_rows.proofs.Lists.{dropped_or}
+use Rattle.list_laws.proofs.Turns.{dropped_or}
 use Rattle.bound_rows.proofs.Placing.{others_still, truth_with, fit_more, found_more, placed_set}
 use Rattle.bound_rows.proofs.rows.push_with_rows.Goals as goal
 

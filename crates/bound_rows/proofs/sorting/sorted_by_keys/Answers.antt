@@ -8,35 +8,37 @@ use Rattle.bound_rows.specs.Keys.{pairs_cmp, keyed_by}
 use Rattle.bound_rows.specs.Keyed.{pair_of}
 use Rattle.bound_rows.specs.Places.{lent}
 use Rattle.bound_rows.proofs.Sorts.{sorted_is, sorted_fit}
+use Rattle.bound_rows.proofs.sorting.sorted_by_keys.Goals.{In_ok-rows}
 use Rattle.bound_rows.proofs.sorting.sorted_by_keys.Goals as goal
+
+out : (c : In_ok-rows)
+    → lent c.in_ok-rows.rows.items ≡ map (λ p. p.1) (map pair_of c.in_ok-sorted.sorted.items)
+out c =
+    c.in_ok-rows.ensures ∙ ap (map (λ each. each.places.now)) c.as_slice.ensures.value
+    ∙ sym (map-map (λ p. p.1) pair_of c.in_ok-sorted.sorted.items)
+
+pairs : (c : In_ok-rows)
+    → map pair_of c.in_ok-sorted.sorted.items
+    ≡ sort_by (pairs_cmp (map sort_key_of c.args.bound.now.keys.now))
+    (map
+    (keyed_by (plain_database c.args.source.now.tables.now)
+    (map sort_key_of c.args.bound.now.keys.now) (map plain_value c.args.source.now.params.now))
+    (lent c.args.rows.now))
+pairs c =
+    c.in_ok-sorted.ensures
+    ∙ ap (sort_by (pairs_cmp (map sort_key_of c.args.bound.now.keys.now))) c.in_ok-keyed.ensures
 
 pub returns-clause-fit : goal.returns-clause-fit
 returns-clause-fit c =
-    let database = plain_database c.args.source.now.tables.now in
-    let params = map plain_value c.args.source.now.params.now in
-    let keys = map sort_key_of c.args.bound.now.keys.now in
-    let rows = lent c.args.rows.now in
-    let sorted = c.in_ok-sorted.sorted.items in
-    let out : lent c.in_ok-rows.rows.items ≡ map (λ p. p.1) (map pair_of sorted) =
-    c.in_ok-rows.ensures ∙ ap (map (λ each. each.places.now)) c.as_slice.ensures.value
-    ∙ sym (map-map (λ p. p.1) pair_of sorted) in
-    let pairs : map pair_of sorted
-    ≡ sort_by (pairs_cmp keys) (map (keyed_by database keys params) rows) =
-    c.in_ok-sorted.ensures ∙ ap (sort_by (pairs_cmp keys)) c.in_ok-keyed.ensures in
-    sorted_fit database (bound_of c.args.bound.now).items keys params rows _ (map pair_of sorted) out
-    pairs c.requires.fit
+    let at = (goal.at.returns-clause-fit c).In_ok-rows in
+    sorted_fit (plain_database c.args.source.now.tables.now) (bound_of c.args.bound.now).items
+    (map sort_key_of c.args.bound.now.keys.now) (map plain_value c.args.source.now.params.now)
+    (lent c.args.rows.now) _ (map pair_of c.in_ok-sorted.sorted.items) (out at) (pairs at)
+    c.requires.fit
 
 pub returns-clause-sorted : goal.returns-clause-sorted
 returns-clause-sorted c =
-    let database = plain_database c.args.source.now.tables.now in
-    let params = map plain_value c.args.source.now.params.now in
-    let keys = map sort_key_of c.args.bound.now.keys.now in
-    let rows = lent c.args.rows.now in
-    let sorted = c.in_ok-sorted.sorted.items in
-    let out : lent c.in_ok-rows.rows.items ≡ map (λ p. p.1) (map pair_of sorted) =
-    c.in_ok-rows.ensures ∙ ap (map (λ each. each.places.now)) c.as_slice.ensures.value
-    ∙ sym (map-map (λ p. p.1) pair_of sorted) in
-    let pairs : map pair_of sorted
-    ≡ sort_by (pairs_cmp keys) (map (keyed_by database keys params) rows) =
-    c.in_ok-sorted.ensures ∙ ap (sort_by (pairs_cmp keys)) c.in_ok-keyed.ensures in
-    sorted_is database keys params rows _ (map pair_of sorted) out pairs
+    let at = (goal.at.returns-clause-sorted c).In_ok-rows in
+    sorted_is (plain_database c.args.source.now.tables.now)
+    (map sort_key_of c.args.bound.now.keys.now) (map plain_value c.args.source.now.params.now)
+    (lent c.args.rows.now) _ (map pair_of c.in_ok-sorted.sorted.items) (out at) (pairs at)

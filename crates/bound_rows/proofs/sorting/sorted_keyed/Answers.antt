@@ -4,8 +4,8 @@ use Rattle.std.specs.Cmp.{IsTotalOrder, IsStrictWeakOrder}
 use Rattle.std.proofs.lemmas.List.Sorted.{ranks_by}
 use Rattle.std.proofs.lemmas.Fn.{always_returns_same}
 use Rattle.std.proofs.lemmas.Cmp.{on_total}
+use Rattle.list_laws.proofs.SortedViews.{sort_by-map}
 use Rattle.list_laws.proofs.StableSorts.{sort_by_is_the_only}
-use Rattle.index_lists.proofs.MappedSorts.{sort_by-map}
 use Rattle.sql_bound.specs.Statements.{sort_key_of}
 use Rattle.bound_rows.specs.Keys.{pairs_cmp}
 use Rattle.bound_rows.specs.Keyed.{pair_of}

@@ -4,6 +4,7 @@ use Rattle.std.specs.Cmp.{IsTotalOrder, IsStrictWeakOrder}
 use Rattle.std.proofs.lemmas.List.Sorted.{ranks_by}
 use Rattle.std.proofs.lemmas.Fn.{always_returns_same}
 use Rattle.std.proofs.lemmas.Cmp.{on_total}
+use Rattle.list_laws.proofs.SortedViews.{sort_by-map}
 use Rattle.list_laws.proofs.StableSorts.{sort_by_is_the_only}
 use Rattle.sql_meaning.specs.Rows as rows
 use Rattle.sql_meaning.specs.IndexLists.{entry_cmp}
@@ -12,7 +13,6 @@ use Rattle.schema_model.specs.PlainSchemas.{plain_row}
 use Rattle.schema_model.specs.declared.rows.Row.{Row}
 use Rattle.index_lists.specs.Lent.{lent_rows}
 use Rattle.index_lists.specs.SortColumns.{sort_column_of}
-use Rattle.index_lists.proofs.MappedSorts.{sort_by-map}
 use Rattle.index_lists.proofs.entries.sorted_entries.Goals as goal
 use denote.Ref.{Bor}
 

@@ -2,7 +2,7 @@ use Rattle.std.proofs.Common.{◌<◌, length}
 use Rattle.sql_tree.specs.Statements.{source_tree}
 use Rattle.sql_bind.specs.Sources.{table_checks, named_item}
 use Rattle.sql_bind.specs.Views.{named_of}
-use Rattle.sql_bind.proofs.Alls.{all_push}
+use Rattle.list_laws.proofs.Lists.{all_push}
 use Rattle.sql_bind.proofs.Turns.{exits, part_fails, part_passes, part_pushed}
 use Rattle.sql_bind.proofs.sources.find_items.Goals as goal
 

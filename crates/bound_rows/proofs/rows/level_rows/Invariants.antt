@@ -11,7 +11,7 @@ use Rattle.bound_rows.specs.Levels.{all_true}
 use Rattle.bound_rows.specs.Places.{FitPlaces, IsRowOf, rows_at}
 use Rattle.bound_rows.specs.Readable.{lent_exprs}
 use Rattle.bound_rows.specs.Tested.{level_table}
-use Rattle.bound_rows.proofs.rows.kept_rows.Given as goal
+use Rattle.bound_rows.proofs.rows.level_rows.Given as goal
 
 abbrev pub invariant-loop-number : goal.invariant-loop-number
 invariant-loop-number l = record {

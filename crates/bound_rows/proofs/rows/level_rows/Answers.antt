@@ -9,9 +9,10 @@ use Rattle.bound_rows.specs.Levels.{all_true}
 use Rattle.bound_rows.specs.Places.{IsRowOf, row_at}
 use Rattle.bound_rows.specs.Readable.{lent_exprs}
 use Rattle.bound_rows.specs.Tested.{level_table}
-use Rattle.bound_rows.proofs.Lists.{dropped_or}
-use Rattle.bound_rows.proofs.Placing.{others_still, truth_with, all_get, fit_more, kept_more}
-use Rattle.bound_rows.proofs.rows.kept_rows.Goals as goal
+use Rattle.list_laws.proofs.Turns.{dropped_or}
+use Rattle.bound_rows.proofs.Placing.{others_still, truth_with, fit_more, kept_more}
+use Rattle.list_laws.proofs.Lists.{all_get}
+use Rattle.bound_rows.proofs.rows.level_rows.Goals as goal
 
 pub loop-number-preserved : goal.loop-number-preserved
 loop-number-preserved c =
