@@ -1,4 +1,4 @@
 pub mod Lists
-pub mod DistinctKeys
 pub mod Pieces
 pub mod PartKeys
+pub mod Halving

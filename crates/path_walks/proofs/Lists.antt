@@ -1,30 +1,20 @@
--- Lists that grow with a loop, and what a loop has left.
+-- Lists that grow with a loop.
 use Rattle.std.proofs.Common.{◌≡◌, ℕ, zero, suc, ◌+◌, ◌<◌, List, [], ◌∷◌, ◌++◌, length, map, get_or}
-use Rattle.std.proofs.Common.{take, drop, ap, sym, ◌∙◌, append_assoc, append-nil, add-one}
-use Rattle.std.specs.Prelude.{Some, slice_get}
-use Rattle.std.specs.List.{flat_map}
-use Rattle.std.proofs.lemmas.Grind.{flat_map-append}
+use Rattle.std.proofs.Common.{take, ap, sym, ◌∙◌, append_assoc, subst, arith}
+use Rattle.std.specs.List.{AllByRecursion, flat_map}
 use Rattle.std.proofs.lemmas.List.{map_push, take_more}
-use Rattle.std.proofs.Math.Seq.{drop-cons}
+use Rattle.list_laws.proofs.Turns.{flat_push}
 
 next_taken : {X : Type 0} (xs : List X) (i : ℕ) (x : X) → i < length xs → x ≡ get_or xs i x
     → take (i + 1) xs ≡ take i xs ++ x ∷ []
 next_taken xs i x h e = take_more xs i x h ∙ ap (λ y. take i xs ++ y ∷ []) (sym e)
 
-pub next_dropped : {X : Type 0} (xs : List X) (i : ℕ) (x : X) → i < length xs → x ≡ get_or xs i x
-    → drop i xs ≡ x ∷ drop (i + 1) xs
-next_dropped xs i x h e =
-    rw add-one (drop-cons xs i x h ∙ ap (λ y. y ∷ drop (suc i) xs) (sym e))
-
-dropped_at : {X : Type 0} (xs : List X) (i : ℕ) (x : X) → slice_get xs i ≡ Some x
-    → drop i xs ≡ x ∷ drop (suc i) xs
-dropped_at [] i x e = absurd (cc)
-dropped_at (y ∷ ys) zero x e = let both : Some y ≡ Some x = e in cc
-dropped_at (y ∷ ys) (suc i) x e = dropped_at ys i x e
-
-pub dropped_get : {X : Type 0} (xs : List X) (i : ℕ) (x : X) → slice_get xs i ≡ Some x
-    → drop i xs ≡ x ∷ drop (i + 1) xs
-dropped_get xs i x e = rw add-one (dropped_at xs i x e)
+-- what all have, a member has
+pub item_has : {X Y : Type 0} (P : Y → Type 0) (seen : X → Y) (xs : List X) (i : ℕ) (x : X)
+    → AllByRecursion P (map seen xs) → i < length xs → x ≡ get_or xs i x → P (seen x)
+item_has P seen [] i x h lt e = absurd (omega (arith, lt))
+item_has P seen (y ∷ ys) zero x h lt e = subst (λ z. P (seen z)) (sym e) h.0
+item_has P seen (y ∷ ys) (suc i) x h lt e = item_has P seen ys i x h.1 (omega (arith, lt)) e
 
 -- one more at the end of a list that is seen
 pub seen_more : {X Y Z : Type 0} (seen : Y → Z) (f : X → Z) (xs : List X) (i : ℕ) (x : X)
@@ -37,10 +27,6 @@ seen_more seen f xs i x new old y start a b h e k =
     ∙ ap (λ z. start ++ (map f (take i xs) ++ z ∷ [])) k
     ∙ ap (λ l. start ++ l) (sym (map_push f (take i xs) x))
     ∙ ap (λ l. start ++ map f l) (sym (next_taken xs i x h e))
-
-flat_push : {X Y : Type 0} (f : X → List Y) (xs : List X) (x : X)
-    → flat_map f (xs ++ x ∷ []) ≡ flat_map f xs ++ f x
-flat_push f xs x = flat_map-append f xs (x ∷ []) ∙ ap (λ l. flat_map f xs ++ l) (append-nil (f x))
 
 -- more at the end, for each member that was gone through
 pub flat_more : {X Y Z : Type 0} (seen : X → Y) (f : Y → List Z) (xs : List X) (i : ℕ) (x : X)

@@ -1,9 +1,10 @@
 -- A seek by equality parts is the seek by the keys that the parts stand for.
-use Rattle.std.proofs.Common.{◌≡◌, ◌≤◌, ℕ, zero, suc, Bool, true, false, cond, List, [], ◌∷◌, ◌++◌}
-use Rattle.std.proofs.Common.{length, map, drop, arith, refl, ap, sym, ◌∙◌, append-nil}
+use Rattle.std.proofs.Common.{◌≡◌, ◌≤◌, ℕ, Bool, true, false, cond, List, [], ◌∷◌, ◌++◌}
+use Rattle.std.proofs.Common.{length, map, drop, refl, ap, sym, ◌∙◌, append-nil}
 use Rattle.std.specs.Prelude.{Option}
 use Rattle.std.specs.List.{flat_map}
 use Rattle.list_laws.proofs.Lists.{flat_map_same}
+use Rattle.list_laws.proofs.Turns.{past_end}
 use Rattle.sql_meaning.specs.Values.{Value, Null, is_null}
 use Rattle.sql_meaning.specs.Rows.{Row}
 use Rattle.sql_meaning.specs.IndexLists.{SortColumn}
@@ -31,12 +32,6 @@ seek_is_by_keys (s ∷ ss) (NullPart ∷ parts) low high rows =
     seek_is_by_keys ss parts low high (key_stretch s Null rows)
     ∙ sym (append-nil (seek_keys ss (keys_for ss parts) low high (key_stretch s Null rows)))
 
-drop_all : {X : Type 0} (xs : List X) (i : ℕ) → length xs ≤ i → drop i xs ≡ []
-drop_all [] zero h = refl
-drop_all [] (suc i) h = refl
-drop_all (x ∷ xs) zero h = absurd (omega arith)
-drop_all (x ∷ xs) (suc i) h = drop_all xs i (omega arith)
-
 no_keys : (ss : List SortColumn) → keys_for ss [] ≡ []
 no_keys [] = refl
 no_keys (s ∷ ss) = refl
@@ -47,4 +42,4 @@ pub keys_end : {P : Type 0} (plain : P → Part) (keys : List (List Value)) (ss 
     → keys ≡ keys ++ keys_for ss (map plain (drop i parts))
 keys_end plain keys ss parts i h =
     sym (append-nil keys) ∙ ap (λ l. keys ++ l) (sym (no_keys ss))
-    ∙ ap (λ ps. keys ++ keys_for ss (map plain ps)) (sym (drop_all parts i h))
+    ∙ ap (λ ps. keys ++ keys_for ss (map plain ps)) (sym (past_end parts i h))

@@ -1,5 +1,5 @@
 -- The keys whose stretches equality parts take.
-use Rattle.std.specs.Prelude.{Bool, List, [], ◌∷◌, cond, map, Vec}
+use Rattle.std.specs.Prelude.{List, [], ◌∷◌, cond, map, Vec}
 use Rattle.std.specs.Global.{Global}
 use Rattle.sql_meaning.specs.Values as plain
 use Rattle.sql_meaning.specs.Values.{Null, is_null}
@@ -26,9 +26,3 @@ abbrev pub keys_for : List SortColumn → List Part → List (List plain.Value)
 keys_for [] parts = []
 keys_for (s ∷ ss) [] = []
 keys_for (s ∷ ss) (part ∷ parts) = keys_of s part ∷ keys_for ss parts
-
--- of members behind x, each that differs from the one before it
-abbrev pub dedup_behind : {X : Type 0} → (X → X → Bool) → X → List X → List X
-dedup_behind same x [] = []
-dedup_behind same x (y ∷ ys) =
-    cond (same x y) (dedup_behind same y ys) (y ∷ dedup_behind same y ys)

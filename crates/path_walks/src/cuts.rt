@@ -1,11 +1,12 @@
 //! A list cut into the stretches of keys, column by column: breadth first and so without recursion.
 ghost use Rattle.std.specs.Prelude.{◌≡◌, ◌≤◌, ◌++◌, [], length, map, drop, OnOk, IfOk, Option};
-ghost use Rattle.std.specs.List.{flat_map};
+ghost use Rattle.std.specs.List.{AllByRecursion, flat_map};
 ghost use Rattle.sql_meaning.specs.Walks.{End, key_stretch};
 ghost use Rattle.sql_value.specs.View.{plain_value};
 ghost use Rattle.index_lists.specs.Lent.{lent_rows};
 ghost use Rattle.path_walks.specs.Columns.{plain_sort_column};
 ghost use Rattle.path_walks.specs.Keys.{lent_keys};
+ghost use Rattle.path_walks.specs.Ordered.{AreEntries, FollowColumn};
 ghost use Rattle.path_walks.specs.Seeks.{lent_lists, seek_keys};
 
 use crate::columns::{SortColumn, column_at};
@@ -21,6 +22,7 @@ fn push_stretches<'s, 't>(
     keys: &[&Value],
     rows: &'s [&'t Row],
 ) -> Result<(), Memory>
+    requires { FollowColumn (plain_sort_column column) (lent_rows rows.now) }
     ensures { OnOk result (lent_lists pieces.new.items ≡ lent_lists pieces.old.items
         ++ map (λ key. key_stretch (plain_sort_column column) (plain_value key.now)
         (lent_rows rows.now)) keys.now) }
@@ -39,6 +41,7 @@ fn cut_by_column<'s, 't>(
     keys: &[&Value],
     pieces: &[&'s [&'t Row]],
 ) -> Result<Vec<&'s [&'t Row]>, Memory>
+    requires { AllByRecursion (FollowColumn (plain_sort_column column)) (lent_lists pieces.now) }
     ensures { IfOk result (λ cut. lent_lists cut.items
         ≡ flat_map (λ rows. map (λ key. key_stretch (plain_sort_column column)
         (plain_value key.now) rows) keys.now) (lent_lists pieces.now)) }
@@ -58,8 +61,12 @@ pub(crate) fn cut_by_columns<'s, 't>(
     keys: &[Vec<&Value>],
     rows: &'s [&'t Row],
 ) -> Result<Vec<&'s [&'t Row]>, Memory>
-    requires { length keys.now ≤ length columns.now }
-    ensures { IfOk result (λ pieces. (low high : Option End)
+    requires few { length keys.now ≤ length columns.now }
+    requires ordered { AreEntries (map plain_sort_column columns.now) (lent_rows rows.now) }
+    ensures ordered { IfOk result (λ pieces.
+        AllByRecursion (AreEntries (drop (length keys.now) (map plain_sort_column columns.now)))
+        (lent_lists pieces.items)) }
+    ensures pieces { IfOk result (λ pieces. (low high : Option End)
         → flat_map (seek_keys (drop (length keys.now) (map plain_sort_column columns.now)) []
         low high) (lent_lists pieces.items)
         ≡ seek_keys (map plain_sort_column columns.now) (lent_keys keys.now) low high

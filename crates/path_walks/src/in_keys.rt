@@ -3,14 +3,14 @@
 ghost use Rattle.std.specs.Prelude.{◌≡◌, [], ◌∷◌, not, map, IfOk};
 ghost use Rattle.std.specs.List.{filter};
 ghost use Rattle.std.specs.Ordering.{eq_by_cmp};
-ghost use Rattle.list_laws.specs.FirstComing.{keep_first};
+ghost use Rattle.list_laws.specs.FirstComing.{keep_first, dedup_behind};
 ghost use Rattle.list_laws.specs.Order.{Ascends, sort_by};
 ghost use Rattle.sql_meaning.specs.IndexLists.{column_cmp};
 ghost use Rattle.sql_meaning.specs.Values.{is_null};
 ghost use Rattle.sql_meaning.specs.Walks as walks;
 ghost use Rattle.sql_value.specs.View.{plain_value};
 ghost use Rattle.path_walks.specs.Columns.{plain_sort_column};
-ghost use Rattle.path_walks.specs.Keys.{dedup_behind, lent_values};
+ghost use Rattle.path_walks.specs.Keys.{lent_values};
 
 use crate::columns::{SortColumn, is_null};
 use sql_value::{Memory, Value, compare, push};

@@ -5,6 +5,7 @@ ghost use Rattle.sql_value.specs.View.{plain_collation};
 ghost use Rattle.index_lists.specs.Lent.{lent_rows};
 ghost use Rattle.path_walks.specs.Columns.{plain_sort_column, site_of};
 ghost use Rattle.path_walks.specs.Ends.{plain_end};
+ghost use Rattle.path_walks.specs.Ordered.{FollowColumn};
 
 use crate::columns::SortColumn;
 use crate::ends::{End, has_null_key};
@@ -19,6 +20,7 @@ fn range<'s, 't>(
     high: Option<&End>,
     rows: &'s [&'t Row],
 ) -> &'s [&'t Row]
+    requires { FollowColumn (plain_sort_column column) (lent_rows rows.now) }
     ensures { lent_rows result.now
         ≡ range_walk column.desc (plain_collation column.coll) (site_of column.column)
         (plain_end low.entry) (plain_end high.entry) (lent_rows rows.now) }
@@ -38,6 +40,7 @@ pub(crate) fn within_ends<'s, 't>(
     high: Option<&End>,
     rows: &'s [&'t Row],
 ) -> &'s [&'t Row]
+    requires { FollowColumn (plain_sort_column column) (lent_rows rows.now) }
     ensures { lent_rows result.now
         ≡ bounds_walk (plain_sort_column column) (plain_end low.entry) (plain_end high.entry)
         (lent_rows rows.now) }

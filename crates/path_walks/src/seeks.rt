@@ -1,11 +1,12 @@
 //! Seeks: equality parts on the first columns of a sorted list, and a range of the next one.
 ghost use Rattle.std.specs.Prelude.{◌≡◌, ◌≤◌, ◌++◌, length, map, OnOk, IfOk, option_map};
-ghost use Rattle.std.specs.List.{flat_map};
+ghost use Rattle.std.specs.List.{AllByRecursion, flat_map};
 ghost use Rattle.sql_meaning.specs.Walks as walks;
 ghost use Rattle.index_lists.specs.Lent.{lent_rows};
 ghost use Rattle.path_walks.specs.Columns.{plain_sort_column};
 ghost use Rattle.path_walks.specs.Ends.{plain_end};
 ghost use Rattle.path_walks.specs.Keys.{lent_keys};
+ghost use Rattle.path_walks.specs.Ordered.{AreEntries, FollowNext};
 ghost use Rattle.path_walks.specs.Parts.{plain_part};
 ghost use Rattle.path_walks.specs.Seeks.{lent_lists, rows_within, seek_keys};
 
@@ -35,6 +36,7 @@ fn within<'s, 't>(
     high: Option<&End>,
     rows: &'s [&'t Row],
 ) -> &'s [&'t Row]
+    requires { FollowNext (option_map plain_sort_column column) (lent_rows rows.now) }
     ensures { lent_rows result.now
         ≡ rows_within (option_map plain_sort_column column) (plain_end low.entry)
         (plain_end high.entry) (lent_rows rows.now) }
@@ -53,6 +55,8 @@ fn join_within<'s, 't>(
     high: Option<&End>,
     pieces: &[&'s [&'t Row]],
 ) -> Result<Vec<&'t Row>, Memory>
+    requires { AllByRecursion (FollowNext (option_map plain_sort_column column))
+        (lent_lists pieces.now) }
     ensures { IfOk result (λ list. lent_rows list.items
         ≡ flat_map (rows_within (option_map plain_sort_column column) (plain_end low.entry)
         (plain_end high.entry)) (lent_lists pieces.now)) }
@@ -74,7 +78,8 @@ fn seek_by_keys<'t>(
     high: Option<&End>,
     rows: &[&'t Row],
 ) -> Result<Vec<&'t Row>, Memory>
-    requires { length keys.now ≤ length columns.now }
+    requires few { length keys.now ≤ length columns.now }
+    requires ordered { AreEntries (map plain_sort_column columns.now) (lent_rows rows.now) }
     ensures { IfOk result (λ list. lent_rows list.items
         ≡ seek_keys (map plain_sort_column columns.now) (lent_keys keys.now)
         (plain_end low.entry) (plain_end high.entry) (lent_rows rows.now)) }
@@ -85,8 +90,9 @@ fn seek_by_keys<'t>(
     Ok(list)
 }
 
-/// The rows of a list, sorted by the columns, that agree with each equality part, and lie within
-/// the ends in the column behind the parts, in the list's order.
+/// The rows of a list, sorted by the columns and then by rowid, that agree with each equality part,
+/// and lie within the ends in the column behind the parts, in the list's order. Each stretch is
+/// found by halving.
 pub fn seek<'t>(
     alloc: Global,
     columns: &[SortColumn],
@@ -95,7 +101,8 @@ pub fn seek<'t>(
     high: Option<&End>,
     rows: &[&'t Row],
 ) -> Result<Vec<&'t Row>, Memory>
-    requires { length parts.now ≤ length columns.now }
+    requires few { length parts.now ≤ length columns.now }
+    requires ordered { AreEntries (map plain_sort_column columns.now) (lent_rows rows.now) }
     ensures { IfOk result (λ list. lent_rows list.items
         ≡ walks.seek (map plain_sort_column columns.now) (map plain_part parts.now)
         (plain_end low.entry) (plain_end high.entry) (lent_rows rows.now)) }

@@ -1,5 +1,6 @@
-//! Stretches of a sorted list: what stands before is skipped, and the first row past ends it.
-ghost use Rattle.std.specs.Prelude.{◌≡◌};
+//! Stretches of a sorted list, found by halving: what stands before is skipped, and the first row
+//! past ends it.
+ghost use Rattle.std.specs.Prelude.{◌≡◌, not};
 ghost use Rattle.list_laws.specs.Stretch as lists;
 ghost use Rattle.sql_meaning.specs.Walks as walks;
 ghost use Rattle.sql_meaning.specs.Rows.{site_value};
@@ -76,34 +77,27 @@ fn stands_on(side: Side, row: &Row) -> bool
 
 /// The rows from the first on that doesn't stand on the side.
 fn drop_while<'s, 't>(side: Side, rows: &'s [&'t Row]) -> &'s [&'t Row]
+    requires { lists.Rises (λ row. not (sides.stands_on side row)) (lent_rows rows.now) }
     ensures { lent_rows result.now
         ≡ lists.drop_while (sides.stands_on side.entry) (lent_rows rows.now) }
 {
-    let mut rest = rows;
-    while let [first, behind @ ..] = rest {
-        if !stands_on(side, first) {
-            return rest;
-        }
-        rest = behind;
-    }
-    rest
+    &rows[rows.partition_point(|row| stands_on(side, row))..]
 }
 
 /// The rows up to the first that stands on the side.
 fn take_until<'s, 't>(side: Side, rows: &'s [&'t Row]) -> &'s [&'t Row]
+    requires { lists.Rises (sides.stands_on side) (lent_rows rows.now) }
     ensures { lent_rows result.now
         ≡ lists.take_until (sides.stands_on side.entry) (lent_rows rows.now) }
 {
-    for (number, row) in rows.iter().enumerate() {
-        if stands_on(side, row) {
-            return &rows[..number];
-        }
-    }
-    rows
+    &rows[..rows.partition_point(|row| !stands_on(side, row))]
 }
 
 /// Skips the rows that stand before, and takes rows until one is past.
 pub(crate) fn stretch<'s, 't>(before: Side, past: Side, rows: &'s [&'t Row]) -> &'s [&'t Row]
+    requires before { lists.Rises (λ row. not (sides.stands_on before row))
+        (lent_rows rows.now) }
+    requires past { lists.Rises (sides.stands_on past) (lent_rows rows.now) }
     ensures { lent_rows result.now
         ≡ lists.stretch (sides.stands_on before.entry) (sides.stands_on past.entry)
         (lent_rows rows.now) }

@@ -1,14 +1,13 @@
 -- What a plan answers, from rows in which each item that isn't placed has the missing row.
 use Rattle.std.specs.Ordering.{ordering_then}
-use Rattle.std.specs.declared.cmp.Ordering.{Ordering}
 use Rattle.std.proofs.Common.{◌≡◌, ℤ, pos, negsuc, Bool, true, false, cond, Option, None, Some, List, [], ◌∷◌}
-use Rattle.std.proofs.Common.{refl, ap, ap₂, ◌∙◌, map, length, ℕ, zero, suc, take, drop}
+use Rattle.std.proofs.Common.{refl, ap, ap₂, ◌∙◌, map, length}
 use Rattle.std.specs.Prelude.{replicate}
 use Rattle.std.specs.List.{AllByRecursion, take-map, drop-map}
 use Rattle.list_laws.specs.Nest.{nested}
-use Rattle.list_laws.specs.Order.{sort_by, insert_by}
-use Rattle.list_laws.proofs.Lists.{all_always}
-use Rattle.index_lists.proofs.MappedSorts.{sort_by-map}
+use Rattle.list_laws.specs.Order.{sort_by}
+use Rattle.list_laws.proofs.Lists.{all_always, all_take, all_drop}
+use Rattle.list_laws.proofs.SortedViews.{sort_by-map, sort_same}
 use Rattle.sql_meaning.specs.Values.{Value, value_cmp}
 use Rattle.sql_meaning.specs.Rows.{Assignment}
 use Rattle.sql_meaning.specs.Schemas.{Schema, Database}
@@ -54,17 +53,6 @@ keys_filled params (k ∷ ks) a b =
     (ap₂ (directed k.falling (value_cmp k.collation)) (ev_filled params k.expr a)
     (ev_filled params k.expr b)) (keys_filled params ks a b)
 
-insert_same : {X : Type 0} (c d : X → X → Ordering) → ((x y : X) → c x y ≡ d x y) → (x : X)
-    (xs : List X) → insert_by c x xs ≡ insert_by d x xs
-insert_same c d h x [] = refl
-insert_same c d h x (y ∷ ys) = rw (h x y, insert_same c d h x ys) refl
-
-sort_same : {X : Type 0} (c d : X → X → Ordering) → ((x y : X) → c x y ≡ d x y) → (xs : List X)
-    → sort_by c xs ≡ sort_by d xs
-sort_same c d h [] = refl
-sort_same c d h (x ∷ xs) =
-    ap (insert_by c x) (sort_same c d h xs) ∙ insert_same c d h x (sort_by d xs)
-
 sorted_filled : (params : List Value) (ks : List SortKey) (xs : List Assignment)
     → sort_by (by_keys params ks) (map filled xs) ≡ map filled (sort_by (by_keys params ks) xs)
 sorted_filled params ks xs =
@@ -97,18 +85,6 @@ answer_is schema database plan params walked rows e f =
     ∙ ap (map (image plan.bound params))
     (cut_map plan.bound params filled (uncut schema database plan params))
     ∙ images_filled plan.bound params (cut plan.bound params (uncut schema database plan params))
-
-all_take : {X : Type 0} (P : X → Type 0) (n : ℕ) (xs : List X) → AllByRecursion P xs
-    → AllByRecursion P (take n xs)
-all_take P zero xs h = tt
-all_take P (suc n) [] h = tt
-all_take P (suc n) (x ∷ xs) h = (h.0, all_take P n xs h.1)
-
-all_drop : {X : Type 0} (P : X → Type 0) (n : ℕ) (xs : List X) → AllByRecursion P xs
-    → AllByRecursion P (drop n xs)
-all_drop P zero xs h = h
-all_drop P (suc n) [] h = tt
-all_drop P (suc n) (x ∷ xs) h = all_drop P n xs h.1
 
 take_cut_all : {X : Type 0} (P : X → Type 0) (count : Option ℤ) (xs : List X)
     → AllByRecursion P xs → AllByRecursion P (take_cut count xs)

@@ -1,12 +1,12 @@
 -- What a plan that fits a schema gives to the walks of its paths.
 use Rattle.std.proofs.Common.{◌≡◌, ◌<◌, ◌≤◌, ℕ, zero, suc, true, Option, None, Some, List, []}
-use Rattle.std.proofs.Common.{◌∷◌, ◌++◌, ◌+◌, refl, sym, length, arith, subst}
+use Rattle.std.proofs.Common.{◌∷◌, ◌++◌, ◌+◌, refl, sym, length, map, arith, subst}
 use Rattle.std.specs.List.{AllByRecursion, flat_map, slice_get}
 use Rattle.std.specs.List.Sorted.{IsPermutation}
 use Rattle.std.proofs.lemmas.List.{length-map}
 use Rattle.std.proofs.lemmas.List.Elements.{All-from_recursion, recursion_from_All}
 use Rattle.std.proofs.lemmas.List.Sorted.{All-permutation, IsPermutation-sym}
-use Rattle.list_laws.proofs.Lists.{all_map}
+use Rattle.list_laws.proofs.Lists.{all_map, all_first}
 use Rattle.sql_meaning.specs.Items.{Item}
 use Rattle.sql_meaning.specs.Schemas.{Schema, Database, Index}
 use Rattle.sql_meaning.specs.IndexLists.{index_sort_columns}
@@ -14,22 +14,20 @@ use Rattle.sql_meaning.specs.OrderState.{columns_at}
 use Rattle.sql_meaning.specs.Statements.{numbers_from}
 use Rattle.sql_meaning.specs.Plans.{Loop}
 use Rattle.sql_meaning.specs.Offers.{loop_items}
-use Rattle.sql_meaning.specs.Paths.{KeyExpr, Edge, Path, Paths, SeekForm}
+use Rattle.sql_meaning.specs.Paths.{KeyExpr, Path, Paths, SeekForm}
 use Rattle.sql_meaning.specs.Paths.{TableScan, RowidEq, RowidRange, IndexScan, IndexSeek, Union}
 use Rattle.sql_meaning.specs.Paths.{Nowhere, Then}
 use Rattle.sql_meaning.specs.Fitting.{part_keys, edge_keys, form_keys, plain_keys, branch_keys}
-use Rattle.sql_meaning.specs.Fitting.{path_keys, FitsTable, IsSeekOf, AreSeeksOf, HasColumns}
+use Rattle.sql_meaning.specs.Fitting.{path_keys, FitsTable, IsSeekOf, AreSeeksOf}
 use Rattle.sql_meaning.specs.Fitting.{is_usable_on}
+use Rattle.sql_bound.specs.Statements.{item_of}
+use Rattle.sql_bound.specs.declared.statement.BItem.{BItem}
 use Rattle.sql_eval.specs.declared.environment.Place.{Place}
 use Rattle.bound_rows.specs.Places.{FitPlaces}
 use Rattle.bound_rows.specs.Readable.{IsReadable}
 use Rattle.plan_form.specs.Seeks.{AllGive, AreReadableKeys, FormGives, HasIndex, IsReadableForm}
 use Rattle.plan_form.specs.Seeks.{keys_form, paths_of, walked_paths}
-
-all_front : {X : Type 0} (P : X → Type 0) (xs ys : List X) → AllByRecursion P (xs ++ ys)
-    → AllByRecursion P xs
-all_front P [] ys h = tt
-all_front P (x ∷ xs) ys h = (h.0, all_front P xs ys h.1)
+use Rattle.plan_form.proofs.IndexColumns.{parts_fit}
 
 all_back : {X : Type 0} (P : X → Type 0) (xs ys : List X) → AllByRecursion P (xs ++ ys)
     → AllByRecursion P ys
@@ -40,7 +38,7 @@ all_parts : {X Y : Type 0} (P : Y → Type 0) (f : X → List Y) (xs : List X)
     → AllByRecursion P (flat_map f xs) → AllByRecursion (λ x. AllByRecursion P (f x)) xs
 all_parts P f [] h = tt
 all_parts P f (x ∷ xs) h =
-    (all_front P (f x) (flat_map f xs) h, all_parts P f xs (all_back P (f x) (flat_map f xs) h))
+    (all_first P (f x) (flat_map f xs) h, all_parts P f xs (all_back P (f x) (flat_map f xs) h))
 
 -- the keys of a form, taken apart
 form_readable : (database : Database) (items : List Item) (f : SeekForm)
@@ -51,8 +49,8 @@ form_readable database items f h =
     let ends = edge_keys f.low ++ edge_keys f.high in
     let behind = all_back P eqs ends h in
     record {
-      eqs = all_parts P part_keys f.eqs (all_front P eqs ends h);
-      low = all_front P (edge_keys f.low) (edge_keys f.high) behind;
+      eqs = all_parts P part_keys f.eqs (all_first P eqs ends h);
+      low = all_first P (edge_keys f.low) (edge_keys f.high) behind;
       high = all_back P (edge_keys f.low) (edge_keys f.high) behind;
     }
 
@@ -78,7 +76,7 @@ branches_readable database items schema Nowhere h = tt
 branches_readable database items schema (Then path paths) h =
     let P : KeyExpr → Type 0 = λ k. IsReadable database items k.expr in (
       path_readable database items schema path
-          (all_front P (plain_keys schema path) (branch_keys schema paths) h),
+          (all_first P (plain_keys schema path) (branch_keys schema paths) h),
       branches_readable database items schema paths
           (all_back P (plain_keys schema path) (branch_keys schema paths) h),
     )
@@ -128,12 +126,6 @@ some_below (i ∷ indexes) (suc n) table h =
 same_length : (o : Option Index) → length (columns_at o) ≡ length (index_sort_columns o)
 same_length None = refl
 same_length (Some index) = sym (length-map index.columns _)
-
-parts_fit : (columns parts : ℕ) (low high : Option Edge) → HasColumns columns parts low high
-    → parts ≤ columns
-parts_fit columns parts None None h = h
-parts_fit columns parts (Some low) high h = omega (arith, h)
-parts_fit columns parts None (Some high) h = omega (arith, h)
 
 seek_index : (schema : Schema) (table : ℕ) (path : Path) → IsSeekOf schema table path
     → HasIndex schema path
@@ -189,3 +181,12 @@ item_below loops i total l e h =
     (IsPermutation-sym (loop_items loops) (numbers_from 0 total) h)
     (All-from_recursion (λ j. j < total) (numbers_from 0 total)
     (numbers_below 0 total total (omega arith)))))
+
+pub item_there : (loops : List Loop) (i : ℕ) (l : Loop) (items : List BItem)
+    → slice_get loops i ≡ Some l
+    → IsPermutation (loop_items loops) (numbers_from 0 (length (map item_of items)))
+    → l.item < length items
+item_there loops i l items e h =
+    let below : l.item < length (map item_of items) =
+    item_below loops i (length (map item_of items)) l e h in
+    omega (arith, below, length-map items item_of)

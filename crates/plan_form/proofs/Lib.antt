@@ -14,4 +14,3 @@ mod ListsOfPaths
 mod FittingPaths
 mod Answered
 mod Turns
-mod Reversals

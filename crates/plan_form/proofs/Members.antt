@@ -6,7 +6,7 @@ use Rattle.std.proofs.lemmas.List.{reverse-append}
 use Rattle.list_laws.specs.Stretch.{drop_while, take_until, stretch}
 use Rattle.list_laws.proofs.Lists.{all_always, all_append, all_flat_map, all_from_at}
 use Rattle.list_laws.proofs.FirstComings.{all_keep}
-use Rattle.bound_rows.proofs.Sorts.{all_sort}
+use Rattle.list_laws.proofs.SortedViews.{all_sort}
 use Rattle.sql_meaning.specs.Values.{Value, Collation, Null, is_null}
 use Rattle.sql_meaning.specs.Rows.{Row, Assignment, Site}
 use Rattle.sql_meaning.specs.Schemas.{Schema}

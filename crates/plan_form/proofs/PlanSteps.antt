@@ -21,7 +21,7 @@ use Rattle.bound_rows.specs.Levels.{due_exprs, with_rows, level_rows, all_true}
 use Rattle.bound_rows.proofs.Filled.{filled, filled_cell, filled_start, nested_filled}
 use Rattle.bound_rows.proofs.Filled.{IsBlind, level_filled, place_filled}
 use Rattle.bound_rows.proofs.LevelTests.{level_is, step_taken}
-use Rattle.bound_rows.proofs.Lists.{dropped_get}
+use Rattle.list_laws.proofs.Turns.{dropped_get}
 
 placed_end : (loops : List Loop) (l : Loop) (placed : List ℕ)
     → placed_by (loops ++ l ∷ []) placed ≡ l.item ∷ placed_by loops placed

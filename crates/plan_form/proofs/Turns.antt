@@ -1,8 +1,9 @@
 -- Loops over lists of places, one list further.
-use Rattle.std.proofs.Common.{◌≡◌, ◌≤◌, ℕ, zero, suc, Some, List, [], ◌∷◌, ◌++◌, refl, ap, sym, ◌∙◌}
-use Rattle.std.proofs.Common.{map, length, drop, arith, append_assoc, append-nil}
+use Rattle.std.proofs.Common.{◌≡◌, ◌≤◌, ℕ, Some, List, [], ◌∷◌, ◌++◌, refl, ap, sym, ◌∙◌}
+use Rattle.std.proofs.Common.{map, length, drop, append_assoc, append-nil}
 use Rattle.std.specs.Prelude.{slice_index_or}
 use Rattle.std.specs.List.{flat_map, slice_get}
+use Rattle.list_laws.proofs.Turns.{past_end}
 use Rattle.sql_meaning.specs.Rows.{Row, Assignment}
 use Rattle.sql_meaning.specs.Schemas.{Database}
 use Rattle.sql_eval.specs.declared.environment.Place.{Place}
@@ -28,12 +29,6 @@ pub numbered : (database : Database) (table : ℕ) (rows : List Row) (numbers : 
     → rows_at database table (map Some numbers) ≡ map (slice_get rows) numbers
 numbered database table rows numbers e =
     numbers_seen database table numbers ∙ ap (λ rs. map (slice_get rs) numbers) (sym e)
-
-pub past_end : {X : Type 0} (xs : List X) (i : ℕ) → length xs ≤ i → drop i xs ≡ []
-past_end [] zero h = refl
-past_end [] (suc i) h = refl
-past_end (x ∷ xs) zero h = absurd (omega (arith, h))
-past_end (x ∷ xs) (suc i) h = past_end xs i (omega (arith, h))
 
 pub nothing_left : (database : Database) (f : Assignment → List Assignment)
     (lists : List (List Place)) (i : ℕ) (before : List Assignment) → length lists ≤ i

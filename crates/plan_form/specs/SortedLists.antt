@@ -5,6 +5,7 @@ use Rattle.sql_meaning.specs.Schemas.{Schema}
 use Rattle.sql_meaning.specs.Paths.{Path, form_of, path_list}
 use Rattle.index_lists.specs.Lent.{lent_rows}
 use Rattle.path_walks.specs.Columns.{plain_sort_column}
+use Rattle.path_walks.specs.Ordered.{AreEntries}
 use Rattle.plan_form.specs.Seeks.{keys_form}
 use Rattle.plan_form.specs.declared.lists.SortedList.{SortedList}
 
@@ -27,10 +28,15 @@ pub record IsAlong (rows : List Row) (paths : List Path) (lists : List SortedLis
   pub schema : Schema
   pub are : AreListsOf schema rows paths lists
 
--- each list has a column for each equality part of its path
-abbrev pub HaveColumns : List Path → List SortedList → Type 0
-HaveColumns [] [] = Unit {0}
-HaveColumns [] (list ∷ lists) = ⊥
-HaveColumns (path ∷ paths) [] = ⊥
-HaveColumns (path ∷ paths) (list ∷ lists) =
-    (length (keys_form path).eqs ≤ length list.columns.items) × HaveColumns paths lists
+-- what a seek asks of the list: a column for each equality part, and rows in the order of the
+-- columns
+pub record IsSearchable (path : Path) (list : SortedList) : Type 0 where
+  pub few : length (keys_form path).eqs ≤ length list.columns.items
+  pub ordered : AreEntries (map plain_sort_column list.columns.items) (lent_rows list.rows.items)
+
+-- the list of each path
+abbrev pub AreSearchable : List Path → List SortedList → Type 0
+AreSearchable [] [] = Unit {0}
+AreSearchable [] (list ∷ lists) = ⊥
+AreSearchable (path ∷ paths) [] = ⊥
+AreSearchable (path ∷ paths) (list ∷ lists) = IsSearchable path list × AreSearchable paths lists

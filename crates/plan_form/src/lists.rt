@@ -2,13 +2,14 @@
 ghost use Rattle.std.specs.Prelude.{◌≡◌, ◌<◌, ◌≤◌, [], ◌∷◌, Some, map, length, IfOk, slice_get};
 ghost use Rattle.std.specs.List.{AllByRecursion};
 ghost use Rattle.sql_meaning.specs.IndexLists as meant;
+ghost use Rattle.sql_meaning.specs.Schemas.{RisingRows};
 ghost use Rattle.schema_model.specs.PlainSchemas.{plain_rows, plain_schema};
 ghost use Rattle.index_lists.specs.Lent.{lent_rows};
 ghost use Rattle.index_lists.specs.SortColumns.{sort_column_of};
 ghost use Rattle.path_walks.specs.Columns.{plain_sort_column};
 ghost use Rattle.plan_form.specs.Paths.{path_of};
 ghost use Rattle.plan_form.specs.Seeks.{HasIndex, keys_form, lent_paths};
-ghost use Rattle.plan_form.specs.SortedLists.{AreListsOf, HaveColumns, IsListOf};
+ghost use Rattle.plan_form.specs.SortedLists.{AreListsOf, AreSearchable, IsListOf};
 
 use crate::path::Path;
 use index_lists::index_list;
@@ -185,10 +186,11 @@ pub(crate) fn lists_of<'p, 't>(
     paths: &[&'p Path<'p>],
     rows: &'t [Row],
 ) -> Result<Vec<SortedList<'t>>, Memory>
-    requires { AllByRecursion (HasIndex (plain_schema schema.now)) (lent_paths paths.now) }
+    requires indexes { AllByRecursion (HasIndex (plain_schema schema.now)) (lent_paths paths.now) }
+    requires rising { RisingRows (plain_rows rows.now) }
     ensures lists { IfOk result (λ lists. AreListsOf (plain_schema schema.now)
         (plain_rows rows.now) (lent_paths paths.now) lists.items) }
-    ensures few { IfOk result (λ lists. HaveColumns (lent_paths paths.now) lists.items) }
+    ensures searchable { IfOk result (λ lists. AreSearchable (lent_paths paths.now) lists.items) }
 {
     let mut lists = Vec::new(alloc);
     for number in 0..paths.len() {

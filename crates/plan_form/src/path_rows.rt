@@ -17,7 +17,7 @@ ghost use Rattle.plan_form.specs.LoopRows.{branch_rows, kept_rows};
 ghost use Rattle.plan_form.specs.Paths.{path_of};
 ghost use Rattle.plan_form.specs.Plans.{loop_of};
 ghost use Rattle.plan_form.specs.Seeks.{FormGives, keys_form, lent_paths, walked_paths};
-ghost use Rattle.plan_form.specs.SortedLists.{AreListsOf, HaveColumns};
+ghost use Rattle.plan_form.specs.SortedLists.{AreListsOf, AreSearchable, IsSearchable};
 
 use crate::keys::seek_values;
 use crate::lists::{SortedList, list_at, path_at};
@@ -57,7 +57,7 @@ fn seek_along<'t>(
 ) -> Result<Vec<&'t Row>, Memory>
     requires gives { FormGives (plain_database env.now.tables.now)
         env.now.places.now (keys_form (path_of path.now)) }
-    requires few { length (keys_form (path_of path.now)).eqs ≤ length list.now.columns.items }
+    requires searchable { IsSearchable (path_of path.now) list.now }
     ensures { IfOk result (λ rows. lent_rows rows.items
         ≡ walks.seek (map plain_sort_column list.now.columns.items)
         (map (meant.part_value (assignment_of env.now) (params_of env.now))
@@ -100,7 +100,7 @@ fn rows_of_paths<'p, 't>(
     requires gives { AllByRecursion (λ path. FormGives (plain_database env.now.tables.now)
         env.now.places.now (keys_form path))
         (lent_paths paths.now) }
-    requires few { HaveColumns (lent_paths paths.now) lists.now }
+    requires searchable { AreSearchable (lent_paths paths.now) lists.now }
     ensures { IfOk result (λ found. (schema : schemas.Schema) → (rows : List plain.Row)
         → AreListsOf schema rows (lent_paths paths.now) lists.now
         → lent_rows found.items ≡ branch_rows schema (params_of env.now) (lent_paths paths.now) rows
@@ -148,32 +148,19 @@ fn first_comings<'t>(alloc: Global, rows: &[&'t Row]) -> Result<Vec<&'t Row>, Me
     Ok(kept)
 }
 
-/// The rows of a loop's path, along the lists of its branches: of a union each at its first coming.
-fn path_rows<'t>(
-    alloc: Global,
-    each: &Loop,
-    lists: &[SortedList<'t>],
-    env: &Env,
-) -> Result<Vec<&'t Row>, Memory>
-    requires gives { AllByRecursion (λ path. FormGives (plain_database env.now.tables.now)
-        env.now.places.now (keys_form path))
-        (walked_paths (loop_of each.now).path) }
-    requires few { HaveColumns (walked_paths (loop_of each.now).path) lists.now }
-    ensures { IfOk result (λ found. (schema : schemas.Schema) → (rows : List plain.Row)
-        → AreListsOf schema rows (walked_paths (loop_of each.now).path) lists.now
-        → lent_rows found.items ≡ kept_rows (meant.is_union (loop_of each.now).path)
-        (branch_rows schema (params_of env.now) (walked_paths (loop_of each.now).path) rows
-        (assignment_of env.now))) }
+/// The rows, of a union each at its first coming.
+fn kept<'t>(alloc: Global, union: bool, rows: Vec<&'t Row>) -> Result<Vec<&'t Row>, Memory>
+    ensures { IfOk result (λ kept. lent_rows kept.items
+        ≡ kept_rows union (lent_rows rows.entry.items)) }
 {
-    let rows = rows_of_paths(alloc, walked_paths(each), lists, env)?;
-    if is_union(each.path) {
-        let kept = first_comings(alloc, rows.as_slice())?;
-        return Ok(kept);
+    if union {
+        let firsts = first_comings(alloc, rows.as_slice())?;
+        return Ok(firsts);
     }
     Ok(rows)
 }
 
-#[tactic(auto, using(crate::proofs::Reversals::map_reverse))]
+#[tactic(auto, using(list_laws::proofs::Turns::map_reverse))]
 fn reversed<'t>(mut rows: Vec<&'t Row>) -> Vec<&'t Row>
     ensures { lent_rows result.items ≡ reverse (lent_rows rows.entry.items) }
 {
@@ -190,7 +177,8 @@ fn directed<'t>(backward: bool, rows: Vec<&'t Row>) -> Vec<&'t Row>
     rows
 }
 
-/// The rows of a loop's path in the loop's direction.
+/// The rows of a loop's path, along the lists of its branches, in the loop's direction: of a union
+/// each at its first coming.
 pub(crate) fn directed_rows<'t>(
     alloc: Global,
     each: &Loop,
@@ -200,7 +188,7 @@ pub(crate) fn directed_rows<'t>(
     requires gives { AllByRecursion (λ path. FormGives (plain_database env.now.tables.now)
         env.now.places.now (keys_form path))
         (walked_paths (loop_of each.now).path) }
-    requires few { HaveColumns (walked_paths (loop_of each.now).path) lists.now }
+    requires searchable { AreSearchable (walked_paths (loop_of each.now).path) lists.now }
     ensures { IfOk result (λ found. (schema : schemas.Schema) → (rows : List plain.Row)
         → AreListsOf schema rows (walked_paths (loop_of each.now).path) lists.now
         → lent_rows found.items ≡ directed_walk each.now.reverse
@@ -208,6 +196,7 @@ pub(crate) fn directed_rows<'t>(
         (branch_rows schema (params_of env.now) (walked_paths (loop_of each.now).path) rows
         (assignment_of env.now)))) }
 {
-    let rows = path_rows(alloc, each, lists, env)?;
-    Ok(directed(each.reverse, rows))
+    let rows = rows_of_paths(alloc, walked_paths(each), lists, env)?;
+    let kept = kept(alloc, is_union(each.path), rows)?;
+    Ok(directed(each.reverse, kept))
 }

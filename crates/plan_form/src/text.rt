@@ -130,24 +130,6 @@ fn append_next_tests(
     append_bound_tests(text, tests.equals == 0, name, tests.low, tests.high)
 }
 
-/// The tests of a search in an index.
-fn append_index_tests(
-    text: &mut Bytes,
-    table: &Table,
-    columns: &[IndexColumn],
-    tests: Tests,
-) -> Result<(), Memory>
-    requires inside { AllByRecursion (λ c. c.column < length table.now.columns) columns.now }
-    requires equals { tests.equals ≤ length columns.now }
-    requires bounds { (tests.low || tests.high) ≡ true → tests.equals < length columns.now }
-    ensures { OnOk result (text.new ≡ text.old ++ meant.joined (meant.index_tests
-        (map (λ c. meant.told_column table.now c.column) columns.now) tests.equals tests.low
-        tests.high)) }
-{
-    append_equal_tests(text, table, &columns[..tests.equals])?;
-    append_next_tests(text, table, columns, tests)
-}
-
 /// The tests of a search in an index, in parentheses.
 fn append_enclosed(
     text: &mut Bytes,
@@ -163,7 +145,8 @@ fn append_enclosed(
         tests.high)) }
 {
     text.append(b" (")?;
-    append_index_tests(text, table, columns, tests)?;
+    append_equal_tests(text, table, &columns[..tests.equals])?;
+    append_next_tests(text, table, columns, tests)?;
     text.append(b")")
 }
 

@@ -27,7 +27,7 @@ ghost use Rattle.plan_form.specs.LoopRows.{walked_rows};
 ghost use Rattle.plan_form.specs.Plans.{loop_of, plan_of};
 ghost use Rattle.plan_form.specs.Seeks.{FormGives, HasIndex, IsReadableForm, keys_form};
 ghost use Rattle.plan_form.specs.Seeks.{walked_paths};
-ghost use Rattle.plan_form.specs.SortedLists.{AreListsOf, HaveColumns, IsAlong};
+ghost use Rattle.plan_form.specs.SortedLists.{AreListsOf, AreSearchable, IsAlong};
 
 use crate::lists::{SortedList, lists_of};
 use crate::numbers::row_numbers;
@@ -93,7 +93,7 @@ fn loop_numbers(
         places.now (keys_form path)) (walked_paths (loop_of each.now).path) }
     requires along { IsAlong (plain_rows table.now) (walked_paths (loop_of each.now).path)
         lists.now }
-    requires columns { HaveColumns (walked_paths (loop_of each.now).path) lists.now }
+    requires searchable { AreSearchable (walked_paths (loop_of each.now).path) lists.now }
     requires rising { RisingRows (plain_rows table.now) }
     requires few { length table.now < 2 ^ 32 }
     ensures within { IfOk result (λ numbers. AllByRecursion (λ number. number < length table.now)
@@ -142,7 +142,7 @@ fn with_loop_rows(
         ≡ slice_index_or (plain_database source.now.tables.now) (level_table level.now) [] }
     requires along { IsAlong (plain_rows table.now) (walked_paths (loop_of each.now).path)
         lists.now }
-    requires columns { HaveColumns (walked_paths (loop_of each.now).path) lists.now }
+    requires searchable { AreSearchable (walked_paths (loop_of each.now).path) lists.now }
     requires rising { RisingRows (plain_rows table.now) }
     requires few { length table.now < 2 ^ 32 }
     ensures fit { IfOk result (λ found. AllFit (plain_database source.now.tables.now)

@@ -1,9 +1,10 @@
 use Rattle.std.proofs.Common.{◌≡◌, ◌++◌, ◌∷◌, drop}
 use Rattle.std.specs.Ordering.{eq_by_cmp}
+use Rattle.list_laws.specs.FirstComing.{dedup_behind}
 use Rattle.sql_meaning.specs.IndexLists.{column_cmp}
 use Rattle.sql_value.specs.View.{plain_value}
 use Rattle.path_walks.specs.Columns.{plain_sort_column}
-use Rattle.path_walks.specs.Keys.{dedup_behind, lent_values}
+use Rattle.path_walks.specs.Keys.{lent_values}
 use Rattle.path_walks.proofs.in_keys.dedup.Given as goal
 
 abbrev pub invariant-loop-key : goal.invariant-loop-key

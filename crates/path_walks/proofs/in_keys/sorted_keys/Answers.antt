@@ -9,8 +9,8 @@ use Rattle.sql_meaning.specs.IndexLists.{column_cmp}
 use Rattle.sql_meaning.proofs.Seeks.{column_cmp_total}
 use Rattle.sql_value.specs.View.{plain_value}
 use Rattle.sql_value.specs.declared.values.Value.{Value}
+use Rattle.list_laws.proofs.SortedViews.{sort_by-map}
 use Rattle.list_laws.proofs.StableSorts.{sort_by_is_the_only}
-use Rattle.index_lists.proofs.MappedSorts.{sort_by-map}
 use Rattle.path_walks.specs.Columns.{plain_sort_column}
 use Rattle.path_walks.specs.Keys.{lent_values}
 use Rattle.path_walks.proofs.in_keys.sorted_keys.Goals as goal

@@ -4,7 +4,7 @@ use Rattle.std.proofs.lemmas.List.{map_push}
 use Rattle.path_walks.specs.Columns.{plain_sort_column}
 use Rattle.path_walks.specs.Keys.{keys_for, lent_keys, lent_values}
 use Rattle.path_walks.specs.Parts.{plain_part}
-use Rattle.path_walks.proofs.Lists.{dropped_get, next_dropped}
+use Rattle.list_laws.proofs.Turns.{dropped_get, next_dropped}
 use Rattle.path_walks.proofs.PartKeys.{keys_end}
 use Rattle.path_walks.proofs.parts.keys_of_parts.Goals as goal
 

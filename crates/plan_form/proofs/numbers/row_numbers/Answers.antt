@@ -3,7 +3,7 @@ use Rattle.std.specs.List.{AllByRecursion, slice_get}
 use Rattle.schema_model.specs.PlainSchemas.{plain_row, plain_rows}
 use Rattle.schema_model.specs.declared.rows.Row.{Row}
 use Rattle.index_lists.specs.Lent.{lent_rows}
-use Rattle.bound_rows.proofs.Lists.{next_dropped}
+use Rattle.list_laws.proofs.Turns.{next_dropped}
 use Rattle.plan_form.specs.LoopRows.{IsRowIn}
 use Rattle.plan_form.proofs.RowidSearch.{numbers_more, within_more}
 use denote.Ref.{Bor}

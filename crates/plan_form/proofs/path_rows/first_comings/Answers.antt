@@ -3,7 +3,7 @@ use Rattle.list_laws.specs.FirstComing.{keep_first}
 use Rattle.sql_meaning.specs.Paths.{same_rowid}
 use Rattle.schema_model.specs.PlainSchemas.{plain_row}
 use Rattle.index_lists.specs.Lent.{lent_rows}
-use Rattle.bound_rows.proofs.Lists.{next_dropped}
+use Rattle.list_laws.proofs.Turns.{next_dropped}
 use Rattle.plan_form.proofs.Unions.{comings_more, rows_of}
 use Rattle.plan_form.proofs.path_rows.first_comings.Goals as goal
 

@@ -9,14 +9,14 @@ use Rattle.plan_form.specs.LoopRows.{branch_rows}
 use Rattle.plan_form.specs.Paths.{path_of}
 use Rattle.plan_form.specs.Seeks.{FormGives, keys_form, lent_paths}
 use Rattle.plan_form.proofs.Forms.{seek_is}
-use Rattle.plan_form.proofs.ListsOfPaths.{list_is, columns_are, as_many, all_dropped}
-use Rattle.bound_rows.proofs.Lists.{dropped_get}
+use Rattle.plan_form.proofs.ListsOfPaths.{list_is, searchable_at, as_many, all_dropped}
+use Rattle.list_laws.proofs.Turns.{dropped_get}
 use Rattle.plan_form.proofs.path_rows.rows_of_paths.Goals as goal
 
 pub list_at-requires : goal.list_at-requires
 list_at-requires c =
     let many : length c.args.lists.now ≡ length (lent_paths c.args.paths.now) =
-    as_many (lent_paths c.args.paths.now) c.args.lists.now c.requires.few in
+    as_many (lent_paths c.args.paths.now) c.args.lists.now c.requires.searchable in
     let e : length (lent_paths c.args.paths.now) ≡ length c.args.paths.now =
     length-map c.args.paths.now _ in
     omega (arith, many, e)
@@ -28,10 +28,10 @@ seek_along-requires-clause-gives c =
     (keys_form path)) (lent_paths c.args.paths.now) c.loop-number.number
     (path_of c.path_at.result.now) c.requires.gives c.path_at.ensures
 
-pub seek_along-requires-clause-few : goal.seek_along-requires-clause-few
-seek_along-requires-clause-few c =
-    columns_are (lent_paths c.args.paths.now) c.args.lists.now c.loop-number.number
-    (path_of c.path_at.result.now) c.list_at.result.now c.requires.few c.path_at.ensures
+pub seek_along-requires-clause-searchable : goal.seek_along-requires-clause-searchable
+seek_along-requires-clause-searchable c =
+    searchable_at (lent_paths c.args.paths.now) c.args.lists.now c.loop-number.number
+    (path_of c.path_at.result.now) c.list_at.result.now c.requires.searchable c.path_at.ensures
     c.list_at.ensures
 
 pub loop-number-preserved : goal.loop-number-preserved

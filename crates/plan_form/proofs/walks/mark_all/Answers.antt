@@ -1,6 +1,6 @@
 use Rattle.std.proofs.Common.{◌<◌, refl, sym, ◌∙◌, arith, length, get_or, subst, ℕ}
 use Rattle.std.proofs.lemmas.List.{length-set}
-use Rattle.bound_rows.proofs.Placing.{all_get}
+use Rattle.list_laws.proofs.Lists.{all_get}
 use Rattle.plan_form.proofs.Marking.{marked_further}
 use Rattle.plan_form.proofs.walks.mark_all.Goals as goal
 

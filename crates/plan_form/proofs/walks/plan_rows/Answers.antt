@@ -6,7 +6,6 @@ use Rattle.list_laws.specs.Nest.{nested}
 use Rattle.list_laws.proofs.Lists.{all_map}
 use Rattle.sql_meaning.proofs.Links.{all_at}
 use Rattle.sql_meaning.specs.Rows.{Assignment}
-use Rattle.sql_meaning.specs.Expressions.{BExpr}
 use Rattle.sql_meaning.specs.Fitting.{PathFits, path_keys}
 use Rattle.sql_meaning.specs.Plans.{consumed_by, steps_of, directed_walk}
 use Rattle.sql_meaning.specs.PlanLaws.{placed_by}
@@ -22,14 +21,13 @@ use Rattle.sql_eval.specs.Environments.{placed}
 use Rattle.sql_eval.specs.declared.environment.Place.{Place}
 use Rattle.bound_rows.specs.Levels.{Marks, due_exprs, with_rows, level_rows}
 use Rattle.bound_rows.specs.Places.{AllFit, assignments, held, empty_places}
-use Rattle.bound_rows.specs.Readable.{AreReadable, lent_exprs}
-use Rattle.bound_rows.proofs.LevelTests.{due_readable}
+use Rattle.bound_rows.specs.Readable.{lent_exprs}
 use Rattle.bound_rows.proofs.Reading.{fits_readable, names_readable, tables_there}
-use Rattle.bound_rows.proofs.Testing.{testable, empty_fit, empty_placed, flat_one, flat_last, table_there}
+use Rattle.bound_rows.proofs.Testing.{due_testable, empty_fit, empty_placed, flat_one, flat_last, table_there}
 use Rattle.plan_form.specs.LoopRows.{walked_rows}
 use Rattle.plan_form.specs.Plans.{loop_of, plan_of}
 use Rattle.plan_form.specs.Seeks.{IsReadableForm, keys_form, walked_paths}
-use Rattle.plan_form.proofs.FittingPaths.{item_below, paths_readable, paths_indexed}
+use Rattle.plan_form.proofs.FittingPaths.{item_below, item_there, paths_readable, paths_indexed}
 use Rattle.plan_form.proofs.Forms.{walk_is_by_branches}
 use Rattle.plan_form.proofs.PlanSteps.{loop_taken, placed_next}
 use Rattle.plan_form.proofs.walks.plan_rows.Goals as goal
@@ -60,62 +58,29 @@ loop-number-init c =
 
 pub level_of-requires-clause-item : goal.level_of-requires-clause-item
 level_of-requires-clause-item c =
-    let schema = plain_schema c.args.schema.now in
-    let database = plain_database c.args.source.now.tables.now in
-    let params = map plain_value c.args.source.now.params.now in
-    let plan = plan_of c.args.plan.now in
-    let bound = c.args.plan.now.bound.now in
-    let items = bound.items.now in
-    let consumed = consumed_by plan.loops in
-    let n = c.loop-number.number in
-    let each = loop_of c.loop_at-each.result in
-    let placed = placed_by (take n plan.loops) [] in
-    let under : each.item < length (map item_of items) =
-    item_below plan.loops n (length (map item_of items)) each c.loop_at-each.ensures
-    c.requires.fits.plan_fits.once in
-    let below : each.item < length items =
-    let e : length (map item_of items) ≡ length items = length-map items item_of in
-    omega (arith, under, e) in
-    below
+    item_there (plan_of c.args.plan.now).loops c.loop-number.number (loop_of c.loop_at-each.result)
+    c.args.plan.now.bound.now.items.now c.loop_at-each.ensures c.requires.fits.plan_fits.once
 
 pub run_loop-requires-clause-level : goal.run_loop-requires-clause-level
 run_loop-requires-clause-level c =
-    let schema = plain_schema c.args.schema.now in
-    let database = plain_database c.args.source.now.tables.now in
-    let params = map plain_value c.args.source.now.params.now in
-    let plan = plan_of c.args.plan.now in
+    let loops = (plan_of c.args.plan.now).loops in
     let bound = c.args.plan.now.bound.now in
-    let items = bound.items.now in
-    let consumed = consumed_by plan.loops in
+    let consumed = consumed_by loops in
     let n = c.loop-number.number in
     let each = loop_of c.loop_at-each.result in
-    let placed = placed_by (take n plan.loops) [] in
-    let level = c.in_ok-level.level in
-    let under : each.item < length (map item_of items) =
-    item_below plan.loops n (length (map item_of items)) each c.loop_at-each.ensures
-    c.requires.fits.plan_fits.once in
-    let below : each.item < length items =
-    let e : length (map item_of items) ≡ length items = length-map items item_of in
-    omega (arith, under, e) in
+    let placed = placed_by (take n loops) [] in
+    let level = c.in_ok-level in
     let marks : Marks c.as_slice.result.now consumed =
     subst (λ (l : List Bool). Marks l consumed) (sym c.as_slice.ensures.value)
     c.in_ok-marks.ensures in
-    let owned : lent_exprs level.owned.items
-    ≡ due_exprs true consumed placed each.item 0 (bound_of bound).conjuncts =
-    c.in_ok-level.ensures.owned placed consumed c.loop-number.invariant.placed marks in
-    let shared : lent_exprs level.common.items
-    ≡ due_exprs false consumed placed each.item 0 (bound_of bound).conjuncts =
-    c.in_ok-level.ensures.common placed consumed c.loop-number.invariant.placed marks in
-    let readable = fits_readable c.args.schema.now c.args.source.now.tables.now (bound_of bound)
-    (needs_of bound) c.requires.fits.statement c.requires.conform in
-    testable database level bound each.item c.in_ok-level.ensures.bound
-    c.in_ok-level.ensures.item below
-    (subst (λ (es : List BExpr). AreReadable database (bound_of bound).items es) (sym owned)
-    (due_readable database (bound_of bound).items true consumed placed each.item 0
-    (bound_of bound).conjuncts readable.conjuncts))
-    (subst (λ (es : List BExpr). AreReadable database (bound_of bound).items es) (sym shared)
-    (due_readable database (bound_of bound).items false consumed placed each.item 0
-    (bound_of bound).conjuncts readable.conjuncts))
+    due_testable (plain_database c.args.source.now.tables.now) level.level bound consumed placed
+    each.item level.ensures.bound level.ensures.item
+    (item_there loops n each bound.items.now c.loop_at-each.ensures
+    c.requires.fits.plan_fits.once)
+    (level.ensures.owned placed consumed c.loop-number.invariant.placed marks)
+    (level.ensures.common placed consumed c.loop-number.invariant.placed marks)
+    (fits_readable c.args.schema.now c.args.source.now.tables.now (bound_of bound)
+    (needs_of bound) c.requires.fits.statement c.requires.conform).conjuncts
 
 pub run_loop-requires-clause-outer : goal.run_loop-requires-clause-outer
 run_loop-requires-clause-outer c =
@@ -130,21 +95,10 @@ pub run_loop-requires-clause-readable : goal.run_loop-requires-clause-readable
 run_loop-requires-clause-readable c =
     let schema = plain_schema c.args.schema.now in
     let database = plain_database c.args.source.now.tables.now in
-    let params = map plain_value c.args.source.now.params.now in
     let plan = plan_of c.args.plan.now in
     let bound = c.args.plan.now.bound.now in
-    let items = bound.items.now in
-    let consumed = consumed_by plan.loops in
     let n = c.loop-number.number in
     let each = loop_of c.loop_at-each.result in
-    let placed = placed_by (take n plan.loops) [] in
-    let level = c.in_ok-level.level in
-    let under : each.item < length (map item_of items) =
-    item_below plan.loops n (length (map item_of items)) each c.loop_at-each.ensures
-    c.requires.fits.plan_fits.once in
-    let below : each.item < length items =
-    let e : length (map item_of items) ≡ length items = length-map items item_of in
-    omega (arith, under, e) in
     let names =
     all_at
     (λ l. AllByRecursion (λ k. NamesExist schema (bound_of bound).items k.expr)
@@ -161,22 +115,10 @@ run_loop-requires-clause-readable c =
 pub run_loop-requires-clause-indexes : goal.run_loop-requires-clause-indexes
 run_loop-requires-clause-indexes c =
     let schema = plain_schema c.args.schema.now in
-    let database = plain_database c.args.source.now.tables.now in
-    let params = map plain_value c.args.source.now.params.now in
     let plan = plan_of c.args.plan.now in
     let bound = c.args.plan.now.bound.now in
-    let items = bound.items.now in
-    let consumed = consumed_by plan.loops in
     let n = c.loop-number.number in
     let each = loop_of c.loop_at-each.result in
-    let placed = placed_by (take n plan.loops) [] in
-    let level = c.in_ok-level.level in
-    let under : each.item < length (map item_of items) =
-    item_below plan.loops n (length (map item_of items)) each c.loop_at-each.ensures
-    c.requires.fits.plan_fits.once in
-    let below : each.item < length items =
-    let e : length (map item_of items) ≡ length items = length-map items item_of in
-    omega (arith, under, e) in
     paths_indexed schema (table_of (Rattle.std.specs.List.slice_get (bound_of bound).items each.item))
     each.path
     (all_at (λ l. PathFits schema (bound_of bound) l.item l.path) plan.loops n each
@@ -184,25 +126,13 @@ run_loop-requires-clause-indexes c =
 
 pub run_loop-requires-clause-table : goal.run_loop-requires-clause-table
 run_loop-requires-clause-table c =
-    let schema = plain_schema c.args.schema.now in
-    let database = plain_database c.args.source.now.tables.now in
-    let params = map plain_value c.args.source.now.params.now in
-    let plan = plan_of c.args.plan.now in
+    let loops = (plan_of c.args.plan.now).loops in
     let bound = c.args.plan.now.bound.now in
-    let items = bound.items.now in
-    let consumed = consumed_by plan.loops in
-    let n = c.loop-number.number in
     let each = loop_of c.loop_at-each.result in
-    let placed = placed_by (take n plan.loops) [] in
-    let level = c.in_ok-level.level in
-    let under : each.item < length (map item_of items) =
-    item_below plan.loops n (length (map item_of items)) each c.loop_at-each.ensures
-    c.requires.fits.plan_fits.once in
-    let below : each.item < length items =
-    let e : length (map item_of items) ≡ length items = length-map items item_of in
-    omega (arith, under, e) in
-    table_there (length c.args.source.now.tables.now) level bound each.item
-    c.in_ok-level.ensures.bound c.in_ok-level.ensures.item below
+    table_there (length c.args.source.now.tables.now) c.in_ok-level.level bound each.item
+    c.in_ok-level.ensures.bound c.in_ok-level.ensures.item
+    (item_there loops c.loop-number.number each bound.items.now c.loop_at-each.ensures
+    c.requires.fits.plan_fits.once)
     (tables_there c.args.schema.now c.args.source.now.tables.now (bound_of bound)
     (needs_of bound) c.requires.fits.statement c.requires.conform)
 
@@ -213,18 +143,11 @@ loop-number-preserved c =
     let params = map plain_value c.args.source.now.params.now in
     let plan = plan_of c.args.plan.now in
     let bound = c.args.plan.now.bound.now in
-    let items = bound.items.now in
     let consumed = consumed_by plan.loops in
     let n = c.loop-number.number in
     let each = loop_of c.loop_at-each.result in
     let placed = placed_by (take n plan.loops) [] in
     let level = c.in_ok-level.level in
-    let under : each.item < length (map item_of items) =
-    item_below plan.loops n (length (map item_of items)) each c.loop_at-each.ensures
-    c.requires.fits.plan_fits.once in
-    let below : each.item < length items =
-    let e : length (map item_of items) ≡ length items = length-map items item_of in
-    omega (arith, under, e) in
     let marks : Marks c.as_slice.result.now consumed =
     subst (λ (l : List Bool). Marks l consumed) (sym c.as_slice.ensures.value)
     c.in_ok-marks.ensures in
@@ -284,7 +207,6 @@ returns-clause-found c =
     let params = map plain_value c.args.source.now.params.now in
     let plan = plan_of c.args.plan.now in
     let bound = c.args.plan.now.bound.now in
-    let items = bound.items.now in
     let consumed = consumed_by plan.loops in
     let n = c.loop-number.number in
     let past : length plan.loops ≤ n =
@@ -298,17 +220,14 @@ returns-clause-found c =
     (nested
     (steps_of schema database (bound_of bound) params consumed
     (placed_by (take n plan.loops) []) ls)) envs)
-    (sym (Rattle.plan_form.proofs.Turns.past_end plan.loops n past))
+    (sym (Rattle.list_laws.proofs.Turns.past_end plan.loops n past))
     ∙ c.loop-number.invariant.found
 
 pub with_item-placed-requires : goal.with_item-placed-requires
 with_item-placed-requires c =
-    let plan = plan_of c.args.plan.now in
-    let bound = c.args.plan.now.bound.now in
-    let items = bound.items.now in
-    let each = loop_of c.loop_at-each.result in
-    let under : each.item < length (map item_of items) =
-    item_below plan.loops c.loop-number.number (length (map item_of items)) each
-    c.loop_at-each.ensures c.requires.fits.plan_fits.once in
+    let items = c.args.plan.now.bound.now.items.now in
+    let below : _ < length (map item_of items) =
+    item_below (plan_of c.args.plan.now).loops c.loop-number.number (length (map item_of items))
+    (loop_of c.loop_at-each.result) c.loop_at-each.ensures c.requires.fits.plan_fits.once in
     let few : length (map item_of items) ≤ 64 = c.requires.fits.statement.few_items in
-    omega (arith, under, few)
+    omega (arith, below, few)

@@ -16,28 +16,24 @@ use Rattle.bound_rows.proofs.Testing.{few_at}
 use Rattle.plan_form.specs.LoopRows.{walked_rows}
 use Rattle.plan_form.specs.Plans.{loop_of}
 use Rattle.plan_form.specs.Seeks.{HasIndex, walked_paths}
-use Rattle.plan_form.specs.SortedLists.{AreListsOf, HaveColumns}
+use Rattle.plan_form.specs.SortedLists.{AreListsOf, AreSearchable}
 use Rattle.plan_form.specs.declared.lists.SortedList.{SortedList}
+use Rattle.plan_form.proofs.walks.run_loop.Goals.{After-as_slice, After-table_rows-table}
 use Rattle.plan_form.proofs.walks.run_loop.Goals as goal
 
-pub lists_of-requires : goal.lists_of-requires
-lists_of-requires c =
-    subst (λ (ps : List Path). AllByRecursion (HasIndex (plain_schema c.args.schema.now)) ps)
-    (sym c.walked_paths.ensures) c.requires.indexes
-
-pub with_loop_rows-requires-clause-table : goal.with_loop_rows-requires-clause-table
-with_loop_rows-requires-clause-table c =
-    let table : plain_rows c.table_rows-table.result.now
-    ≡ slice_index_or (plain_database c.args.source.now.tables.now) (level_table c.args.level.now) [] =
+-- the rows are those of the level's table
+table_is : (c : After-table_rows-table)
+    → plain_rows c.table_rows-table.result.now
+    ≡ slice_index_or (plain_database c.args.source.now.tables.now) (level_table c.args.level.now) []
+table_is c =
     c.table_rows-table.ensures
     ∙ ap (λ o. slice_index_or (plain_database c.args.source.now.tables.now) (table_of o) [])
-    (sym c.level_item.ensures) in
-    table
+    (sym c.level_item.ensures)
 
-pub with_loop_rows-requires-clause-along : goal.with_loop_rows-requires-clause-along
-with_loop_rows-requires-clause-along c =
-    let are : AreListsOf (plain_schema c.args.schema.now) (plain_rows c.table_rows-table.result.now)
-    (walked_paths (loop_of c.args.each.now).path) c.as_slice.result.now =
+lists_are : (c : After-as_slice)
+    → AreListsOf (plain_schema c.args.schema.now) (plain_rows c.table_rows-table.result.now)
+    (walked_paths (loop_of c.args.each.now).path) c.as_slice.result.now
+lists_are c =
     subst
     (λ (ls : List SortedList). AreListsOf (plain_schema c.args.schema.now)
     (plain_rows c.table_rows-table.result.now) (walked_paths (loop_of c.args.each.now).path) ls)
@@ -45,57 +41,51 @@ with_loop_rows-requires-clause-along c =
     (subst
     (λ (ps : List Path). AreListsOf (plain_schema c.args.schema.now)
     (plain_rows c.table_rows-table.result.now) ps c.in_ok-lists.lists.items)
-    c.walked_paths.ensures c.in_ok-lists.ensures.lists) in
-    record { schema = plain_schema c.args.schema.now; are = are }
+    c.walked_paths.ensures c.in_ok-lists.ensures.lists)
 
-pub with_loop_rows-requires-clause-columns : goal.with_loop_rows-requires-clause-columns
-with_loop_rows-requires-clause-columns c =
+pub lists_of-requires-clause-indexes : goal.lists_of-requires-clause-indexes
+lists_of-requires-clause-indexes c =
+    subst (λ (ps : List Path). AllByRecursion (HasIndex (plain_schema c.args.schema.now)) ps)
+    (sym c.walked_paths.ensures) c.requires.indexes
+
+pub lists_of-requires-clause-rising : goal.lists_of-requires-clause-rising
+lists_of-requires-clause-rising c =
+    subst (λ (rows : List Row). RisingRows rows) (sym (table_is (goal.at.lists_of-requires-clause-rising c).After-table_rows-table))
+    (c.requires.conform.sound.rising (level_table c.args.level.now))
+
+pub with_loop_rows-requires-clause-table : goal.with_loop_rows-requires-clause-table
+with_loop_rows-requires-clause-table c =
+    table_is (goal.at.with_loop_rows-requires-clause-table c).After-table_rows-table
+
+pub with_loop_rows-requires-clause-along : goal.with_loop_rows-requires-clause-along
+with_loop_rows-requires-clause-along c =
+    record { schema = plain_schema c.args.schema.now; are = lists_are (goal.at.with_loop_rows-requires-clause-along c).After-as_slice }
+
+pub with_loop_rows-requires-clause-searchable : goal.with_loop_rows-requires-clause-searchable
+with_loop_rows-requires-clause-searchable c =
     subst
-    (λ (ls : List SortedList). HaveColumns (walked_paths (loop_of c.args.each.now).path) ls)
+    (λ (ls : List SortedList). AreSearchable (walked_paths (loop_of c.args.each.now).path) ls)
     (sym c.as_slice.ensures.value)
-    (subst (λ (ps : List Path). HaveColumns ps c.in_ok-lists.lists.items)
-    c.walked_paths.ensures c.in_ok-lists.ensures.few)
+    (subst (λ (ps : List Path). AreSearchable ps c.in_ok-lists.lists.items)
+    c.walked_paths.ensures c.in_ok-lists.ensures.searchable)
 
 pub with_loop_rows-requires-clause-rising : goal.with_loop_rows-requires-clause-rising
 with_loop_rows-requires-clause-rising c =
-    let table : plain_rows c.table_rows-table.result.now
-    ≡ slice_index_or (plain_database c.args.source.now.tables.now) (level_table c.args.level.now) [] =
-    c.table_rows-table.ensures
-    ∙ ap (λ o. slice_index_or (plain_database c.args.source.now.tables.now) (table_of o) [])
-    (sym c.level_item.ensures) in
-    subst (λ (rows : List Row). RisingRows rows) (sym table)
+    subst (λ (rows : List Row). RisingRows rows) (sym (table_is (goal.at.with_loop_rows-requires-clause-rising c).After-table_rows-table))
     (c.requires.conform.sound.rising (level_table c.args.level.now))
 
 pub with_loop_rows-requires-clause-few : goal.with_loop_rows-requires-clause-few
 with_loop_rows-requires-clause-few c =
-    let table : plain_rows c.table_rows-table.result.now
-    ≡ slice_index_or (plain_database c.args.source.now.tables.now) (level_table c.args.level.now) [] =
-    c.table_rows-table.ensures
-    ∙ ap (λ o. slice_index_or (plain_database c.args.source.now.tables.now) (table_of o) [])
-    (sym c.level_item.ensures) in
     few_at c.args.source.now.tables.now (level_table c.args.level.now) c.table_rows-table.result.now
-    c.requires.few c.requires.table table
+    c.requires.few c.requires.table
+    (table_is (goal.at.with_loop_rows-requires-clause-few c).After-table_rows-table)
 
 pub returns-clause-found : goal.returns-clause-found
 returns-clause-found c =
-    let table : plain_rows c.table_rows-table.result.now
-    ≡ slice_index_or (plain_database c.args.source.now.tables.now) (level_table c.args.level.now) [] =
-    c.table_rows-table.ensures
-    ∙ ap (λ o. slice_index_or (plain_database c.args.source.now.tables.now) (table_of o) [])
-    (sym c.level_item.ensures) in
-    let are : AreListsOf (plain_schema c.args.schema.now) (plain_rows c.table_rows-table.result.now)
-    (walked_paths (loop_of c.args.each.now).path) c.as_slice.result.now =
-    subst
-    (λ (ls : List SortedList). AreListsOf (plain_schema c.args.schema.now)
-    (plain_rows c.table_rows-table.result.now) (walked_paths (loop_of c.args.each.now).path) ls)
-    (sym c.as_slice.ensures.value)
-    (subst
-    (λ (ps : List Path). AreListsOf (plain_schema c.args.schema.now)
-    (plain_rows c.table_rows-table.result.now) ps c.in_ok-lists.lists.items)
-    c.walked_paths.ensures c.in_ok-lists.ensures.lists) in
     let level = c.args.level.now in
     let params = map plain_value c.args.source.now.params.now in
-    c.in_ok-found.ensures.found (plain_schema c.args.schema.now) are
+    c.in_ok-found.ensures.found (plain_schema c.args.schema.now)
+    (lists_are (goal.at.returns-clause-found c).After-as_slice)
     ∙ ap
     (λ rows. flat_map
     (λ env. with_rows params (lent_exprs level.common.items) level.item
@@ -104,4 +94,5 @@ returns-clause-found c =
     (map Some
     (walked_rows (plain_schema c.args.schema.now) params (loop_of c.args.each.now) rows env))
     env) env)
-    (assignments (plain_database c.args.source.now.tables.now) (held c.args.outer.now))) table
+    (assignments (plain_database c.args.source.now.tables.now) (held c.args.outer.now)))
+    (table_is (goal.at.returns-clause-found c).After-table_rows-table)

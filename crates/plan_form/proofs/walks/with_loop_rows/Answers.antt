@@ -14,7 +14,7 @@ use Rattle.bound_rows.specs.Levels.{with_rows, level_rows}
 use Rattle.bound_rows.specs.Places.{FitPlaces, assignments, held, rows_at}
 use Rattle.bound_rows.specs.Readable.{lent_exprs}
 use Rattle.bound_rows.specs.Tested.{level_table}
-use Rattle.bound_rows.proofs.Lists.{dropped_get}
+use Rattle.list_laws.proofs.Turns.{dropped_get}
 use Rattle.bound_rows.proofs.Testing.{rows_counted}
 use Rattle.plan_form.specs.LoopRows.{walked_rows}
 use Rattle.plan_form.specs.Plans.{loop_of}
