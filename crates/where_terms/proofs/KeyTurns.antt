@@ -10,7 +10,7 @@ use Rattle.sql_meaning.specs.Serving.{keys_or, keys_under, key_under, comparison
 use Rattle.sql_bound.specs.declared.expression.BExpr.{BExpr}
 use Rattle.sql_bound.specs.Expressions.{expr_of}
 use Rattle.sql_bound.proofs.Members.{plain_members}
-use Rattle.where_terms.proofs.Steps.{drop_cut}
+use Rattle.list_laws.proofs.Turns.{dropped_or}
 
 key_more : (made : List KeyExpr) (key : KeyExpr) (o : Option (List KeyExpr))
     → option_map (λ ks. (made ++ key ∷ []) ++ ks) o
@@ -34,5 +34,5 @@ keys_turn item site coll members i d made more key whole below is m inv =
     ∙ ap (λ o. option_map (λ ks. made ++ ks) (keys_or o rest)) is
     ∙ ap
     (λ ms. option_map (λ ks. made ++ ks) (keys_under item site coll (plain_members ms)))
-    (sym (drop_cut members i d below))
+    (sym (dropped_or members i d below))
     ∙ inv

@@ -3,8 +3,7 @@ pub mod Steps
 pub mod KeyTurns
 pub mod MarkTurns
 pub mod OwnTurns
-pub mod MappedSorts
-pub mod FirstsInOrder
+pub mod ColumnOrder
 pub mod Visits
 pub mod Constants
 pub mod ListedColumns

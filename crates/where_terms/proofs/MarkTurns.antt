@@ -16,7 +16,7 @@ use Rattle.std.proofs.lemmas.Nat.{one_shl}
 use Rattle.sql_bound.proofs.Bits.{no_item, one_moved}
 use Rattle.sql_bound.proofs.Members.{plain_members}
 use Rattle.where_terms.specs.Masks.{marked, marked_all, key_names}
-use Rattle.where_terms.proofs.Steps.{drop_cut}
+use Rattle.list_laws.proofs.Turns.{dropped_or}
 
 pub marked-append : (mask : ℕ) (xs ys : List ℕ)
     → marked_all mask (xs ++ ys) ≡ marked_all (marked_all mask xs) ys
@@ -37,7 +37,7 @@ members_turn members i d mask made whole below is inv =
     ∙ sym
     (marked-append mask (names (expr_of (get_or members i d).now))
     (all_names (plain_members (drop (i + 1) members))))
-    ∙ ap (λ ms. marked_all mask (all_names (plain_members ms))) (sym (drop_cut members i d below))
+    ∙ ap (λ ms. marked_all mask (all_names (plain_members ms))) (sym (dropped_or members i d below))
     ∙ inv
 
 pub keys_turn : (keys : List KeyExpr) (i : ℕ) (d : KeyExpr) (mask made whole : ℕ)
@@ -49,7 +49,7 @@ keys_turn keys i d mask made whole below is inv =
     ∙ sym
     (marked-append mask (names (expr_of (get_or keys i d).expr.now))
     (key_names (map key_expr_of (drop (i + 1) keys))))
-    ∙ ap (λ ks. marked_all mask (key_names (map key_expr_of ks))) (sym (drop_cut keys i d below))
+    ∙ ap (λ ks. marked_all mask (key_names (map key_expr_of ks))) (sym (dropped_or keys i d below))
     ∙ inv
 
 -- the items of the one list before those of the other, the last first

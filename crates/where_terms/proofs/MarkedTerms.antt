@@ -24,11 +24,15 @@ marked t small =
     subst (λ (mask : ℕ). IsPlaced mask (kind_names (term_kind_of t.kind))) (sym t.others_are_named)
     (marks_are_placed (kind_names (term_kind_of t.kind)) small)
 
+pub terms_marked : (ts : List Term) → AllByRecursion SmallTerm (map term_of ts)
+    → AllByRecursion IsMarked ts
+terms_marked ts small = all_seen IsMarked SmallTerm term_of ts marked small
+
 column_marked : (c : ColumnTerms) → SmallColumn (column_terms_of c) → AreMarked c
 column_marked c small = record {
-  equals = all_seen IsMarked SmallTerm term_of c.equals.now marked small.equals;
-  lows = all_seen IsMarked SmallTerm term_of c.lows.now marked small.lows;
-  highs = all_seen IsMarked SmallTerm term_of c.highs.now marked small.highs;
+  equals = terms_marked c.equals.now small.equals;
+  lows = terms_marked c.lows.now small.lows;
+  highs = terms_marked c.highs.now small.highs;
 }
 
 or_marked : (o : OrTerm) → SmallOr (or_term_of o)

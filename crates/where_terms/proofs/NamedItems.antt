@@ -1,7 +1,7 @@
 -- The keys of a statement's terms name items of the statement alone.
 use Rattle.std.proofs.Common.{◌≡◌, ◌<◌, ◌≤◌, ℕ, Bool, true, false, ◌&&◌, not, List, [], ◌∷◌, ◌++◌}
 use Rattle.std.proofs.Common.{Option, Some, None, refl, map, cond, subst, length, suc}
-use Rattle.std.proofs.Common.{arith, ◌==◌, ◌-◌}
+use Rattle.std.proofs.Common.{arith, ◌==◌}
 use Rattle.std.specs.List.{AllByRecursion, filter, flat_map}
 use Rattle.std.specs.Option.{option_or}
 use Rattle.list_laws.proofs.Lists.{all_append, all_filter, all_always, all_flat_map, all_map}
@@ -289,6 +289,24 @@ small_direct own bound item number (c ∷ cs) h =
     (small_serving own item c.expr h.0)))
     (small_direct own bound item (suc number) cs h.1)
 
+small_own : (schema : Schema) (bound : Bound) (item : ℕ)
+    → AllByRecursion (λ c. SmallExpr c.expr) bound.conjuncts
+    → AllByRecursion SmallTerm (own_terms schema bound item)
+small_own schema bound item h =
+    small_direct
+    (λ at. (own_column schema bound.items (record { item = item; site = at })).collation) bound
+    item 0 bound.conjuncts h
+
+small_branch_own : (schema : Schema) (bound : Bound) (item number : ℕ) (e : BExpr) → SmallExpr e
+    → AllByRecursion SmallTerm (branch_own schema bound item number (flat e))
+small_branch_own schema bound item number e h =
+    let own : Site → Collation =
+    λ at. (own_column schema bound.items (record { item = item; site = at })).collation in
+    all_flat_map SmallTerm (λ x. numbered_term number (serving own item x)) (flat e)
+    (all_map SmallExpr (λ x. AllByRecursion SmallTerm (numbered_term number (serving own item x)))
+    (flat e) (λ x k. small_numbered number (serving own item x) (small_serving own item x k))
+    (small_flat e h))
+
 -- the keys of a LIKE's bounds are texts
 small_below : (site : Site) (high : Option (List ℕ))
     → AllByRecursion SmallTerm (below_term site high)
@@ -427,9 +445,7 @@ small_item schema bound item h =
     (derived_terms schema bound.items
     (exprs_of (filter (may_derive bound item) bound.conjuncts)) item
     (record { item = item; site = site })) (own_likes schema bound item)
-    (small_direct
-    (λ at. (own_column schema bound.items (record { item = item; site = at })).collation) bound
-    item 0 bound.conjuncts h)
+    (small_own schema bound item h)
     (small_derived schema bound.items
     (exprs_of (filter (may_derive bound item) bound.conjuncts)) item
     (record { item = item; site = site })
@@ -449,8 +465,6 @@ small_branch : (schema : Schema) (bound : Bound) (c : Conjunct) (item number : �
     → SmallExpr e → AllByRecursion SmallColumn (branch_terms schema bound c item number e)
 small_branch schema bound c item number e h =
     let es = flat e in
-    let own : Site → Collation =
-    λ at. (own_column schema bound.items (record { item = item; site = at })).collation in
     all_filter SmallColumn has_term
     (map (branch_column schema bound c item number es) (all_sites schema bound item))
     (all_mapped SmallColumn (branch_column schema bound c item number es)
@@ -459,10 +473,7 @@ small_branch schema bound c item number e h =
     (derived_if (may_derive bound item c)
     (derived_terms schema bound.items es item (record { item = item; site = site })))
     (branch_likes schema bound item es)
-    (all_flat_map SmallTerm (λ x. numbered_term number (serving own item x)) es
-    (all_map SmallExpr (λ x. AllByRecursion SmallTerm (numbered_term number (serving own item x)))
-    es (λ x k. small_numbered number (serving own item x) (small_serving own item x k))
-    (small_flat e h)))
+    (small_branch_own schema bound item number e h)
     (small_derived_if (may_derive bound item c)
     (derived_terms schema bound.items es item (record { item = item; site = site }))
     (small_derived schema bound.items es item (record { item = item; site = site })
@@ -534,13 +545,29 @@ pub record SmallItem (t : ItemTerms) : Type 0 where
   pub columns : AllByRecursion SmallColumn t.columns
   pub ors : AllByRecursion SmallOr t.ors
 
+conjuncts_small : (schema : Schema) (bound : Bound) (needs : List (List ℕ))
+    → Fits schema bound needs → AllByRecursion (λ c. SmallExpr c.expr) bound.conjuncts
+conjuncts_small schema bound needs fits =
+    all_map (λ c. IsSound schema bound.items c.expr) (λ c. SmallExpr c.expr) bound.conjuncts
+    (λ c sound. names_small schema bound.items fits.few_items c.expr sound.names)
+    fits.conjuncts
+
+pub own_terms_small : (schema : Schema) (bound : Bound) (needs : List (List ℕ)) (item : ℕ)
+    → Fits schema bound needs → AllByRecursion SmallTerm (own_terms schema bound item)
+own_terms_small schema bound needs item fits =
+    small_own schema bound item (conjuncts_small schema bound needs fits)
+
+pub branch_own_small : (schema : Schema) (bound : Bound) (needs : List (List ℕ)) (item number : ℕ)
+    (e : BExpr) → Fits schema bound needs → NamesExist schema bound.items e
+    → AllByRecursion SmallTerm (branch_own schema bound item number (flat e))
+branch_own_small schema bound needs item number e fits names =
+    small_branch_own schema bound item number e
+    (names_small schema bound.items fits.few_items e names)
+
 pub terms_small : (schema : Schema) (bound : Bound) (needs : List (List ℕ))
     → Fits schema bound needs → AllByRecursion SmallItem (terms_of schema bound)
 terms_small schema bound needs fits =
-    let small : AllByRecursion (λ c. SmallExpr c.expr) bound.conjuncts =
-    all_map (λ c. IsSound schema bound.items c.expr) (λ c. SmallExpr c.expr) bound.conjuncts
-    (λ c sound. names_small schema bound.items fits.few_items c.expr sound.names)
-    fits.conjuncts in
+    let small = conjuncts_small schema bound needs fits in
     all_mapped SmallItem (terms_of_item schema bound) (numbers_from 0 (length bound.items))
     (λ item. record {
       columns = small_item schema bound item small;

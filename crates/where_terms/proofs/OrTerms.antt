@@ -3,6 +3,7 @@ use Rattle.std.proofs.Common.{◌≡◌, ◌<◌, ◌+◌, ◌-◌, ℕ, Bool, t
 use Rattle.std.proofs.Common.{Some, refl, ap, ap₂, sym, ◌∙◌, map, cond, length}
 use Rattle.std.proofs.Common.{zero, suc, arith, drop, add-one, slice_get}
 use Rattle.std.specs.List.{filter}
+use Rattle.list_laws.proofs.Turns.{map_same}
 use Rattle.sql_meaning.specs.Schemas.{Schema}
 use Rattle.sql_meaning.specs.Items.{Item}
 use Rattle.sql_meaning.specs.Expressions.{BExpr, BExprs, Nil, More, Any, ColumnRef, flat}
@@ -29,11 +30,6 @@ derived_either : (schema : Schema) (items : List Item) (es : List BExpr) (item :
     ≡ derived_if b (derived_terms schema items es item c)
 derived_either schema items es item c true = refl
 derived_either schema items es item c false = derived_none schema items item c
-
-map_same : {X Y : Type 0} (f g : X → Y) → ((x : X) → f x ≡ g x) → (xs : List X)
-    → map f xs ≡ map g xs
-map_same f g same [] = refl
-map_same f g same (x ∷ xs) = ap₂ (λ y ys. y ∷ ys) (same x) (map_same f g same xs)
 
 branch_same : (schema : Schema) (b : Bound) (c : Conjunct) (item number : ℕ) (e : BExpr)
     → branch_from schema b item number (may_derive b item c) e

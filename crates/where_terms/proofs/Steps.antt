@@ -1,6 +1,6 @@
 -- A turn of a loop that builds a list: what is made, and what is left to make, are the whole.
-use Rattle.std.proofs.Common.{◌≡◌, ◌<◌, ◌+◌, ℕ, List, [], ◌∷◌, ◌++◌}
-use Rattle.std.proofs.Common.{ap, sym, ◌∙◌, length, get_or, drop, map, add-one, drop-cons, suc}
+use Rattle.std.proofs.Common.{◌≡◌, List, [], ◌∷◌, ◌++◌}
+use Rattle.std.proofs.Common.{ap, sym, ◌∙◌, map}
 use Rattle.std.proofs.lemmas.List.{map-append, append_assoc}
 
 pub made_more : {X : Type 0} (made here rest more before whole : List X) → more ≡ made ++ here
@@ -13,12 +13,3 @@ made_more made here rest more before whole m b inv =
 pub mapped_push : {X Y : Type 0} (f : X → Y) (xs ys : List X) (x : X) → ys ≡ xs ++ x ∷ []
     → map f ys ≡ map f xs ++ f x ∷ []
 mapped_push f xs ys x is = ap (map f) is ∙ map-append f xs (x ∷ [])
-
-pub drop_cut : {X : Type 0} (xs : List X) (i : ℕ) (d : X) → i < length xs
-    → drop i xs ≡ get_or xs i d ∷ drop (i + 1) xs
-drop_cut xs i d below = rw add-one (drop-cons xs i d below)
-
-pub next_dropped : {X : Type 0} (xs : List X) (i : ℕ) (x : X) → i < length xs → x ≡ get_or xs i x
-    → drop i xs ≡ x ∷ drop (i + 1) xs
-next_dropped xs i x h e =
-    rw add-one (drop-cons xs i x h ∙ ap (λ y. y ∷ drop (suc i) xs) (sym e))

@@ -4,25 +4,16 @@ use Rattle.std.proofs.Common.{◌≡◌, ◌<◌, ◌+◌, ◌-◌, ℕ, Bool, t
 use Rattle.std.proofs.Common.{cond}
 use Rattle.std.proofs.Common.{refl, ap, ap₂, sym, ◌∙◌, length, map, zero, suc, arith, reverse}
 use Rattle.std.specs.List.{filter}
-use Rattle.std.proofs.lemmas.List.{map-append, reverse-append, append_assoc, append-nil}
+use Rattle.std.proofs.lemmas.List.{reverse-append, reverse-reverse, append_assoc, append-nil}
 use Rattle.std.proofs.lemmas.List.{length-map}
+use Rattle.std.proofs.lemmas.List.Elements.{filter-append}
+use Rattle.list_laws.proofs.Turns.{map_reverse}
 use Rattle.sql_meaning.specs.Expressions.{ColumnRef}
 use Rattle.sql_meaning.specs.TermLists.{Pair, touches, other_end, visits, visited}
 use Rattle.sql_bound.specs.Columns.{column_ref_of}
 use Rattle.sql_bound.specs.declared.columns.ColumnRef.{ColumnRef as Held}
 use Rattle.where_terms.specs.Views.{link_of}
 use Rattle.where_terms.specs.declared.links.Link.{Link}
-
-kept_more : {X : Type 0} (x : X) (xs ys zs : List X) (b : Bool) → xs ≡ ys ++ zs
-    → cond b (x ∷ xs) xs ≡ cond b (x ∷ ys) ys ++ zs
-kept_more x xs ys zs true is = ap (λ l. x ∷ l) is
-kept_more x xs ys zs false is = is
-
-filter-append : {X : Type 0} (p : X → Bool) (xs ys : List X)
-    → filter p (xs ++ ys) ≡ filter p xs ++ filter p ys
-filter-append p [] ys = refl
-filter-append p (x ∷ xs) ys =
-    kept_more x (filter p (xs ++ ys)) (filter p xs) (filter p ys) (p x) (filter-append p xs ys)
 
 one_back : {X : Type 0} (x : X) (b : Bool) → reverse (cond b (x ∷ []) []) ≡ cond b (x ∷ []) []
 one_back x true = refl
@@ -43,14 +34,6 @@ filter-reverse p (x ∷ xs) =
     ∙ sym (reverse-append (cond (p x) (x ∷ []) []) (filter p xs))
     ∙ ap reverse (sym (front x (filter p xs) (p x)))
 
-pub map-reverse : {X Y : Type 0} (f : X → Y) (xs : List X) → map f (reverse xs) ≡ reverse (map f xs)
-map-reverse f [] = refl
-map-reverse f (x ∷ xs) =
-    ap (map f) (reverse-append (x ∷ []) xs)
-    ∙ map-append f (reverse xs) (x ∷ [])
-    ∙ ap (λ ys. ys ++ f x ∷ []) (map-reverse f xs)
-    ∙ sym (reverse-append (f x ∷ []) (map f xs))
-
 -- what is to be visited and the links are held from the last to the first
 pub visit_turn : (n i : ℕ) (c : ColumnRef) (before next more : List ColumnRef)
     (links left : List Pair) (found made whole : List ColumnRef)
@@ -67,7 +50,7 @@ visit_turn n i c before next more links left found made whole below b m l d inv 
     ap reverse m
     ∙ reverse-append next (map (other_end c) (filter (touches c) links))
     ∙ ap (λ xs. xs ++ reverse next)
-    (sym (map-reverse (other_end c) (filter (touches c) links))
+    (sym (map_reverse (other_end c) (filter (touches c) links))
     ∙ ap (map (other_end c)) (sym (filter-reverse (touches c) links))) in
     let kept : reverse left ≡ filter (λ p. not (touches c p)) (reverse links) =
     ap reverse l ∙ sym (filter-reverse (λ p. not (touches c p)) links) in
@@ -92,15 +75,8 @@ visits_end n links before found whole b inv =
     (sym (ap (λ ns. visits n (reverse ns) (reverse links)) b ∙ none_left n (reverse links)))
     ∙ inv
 
-reverse_reverse : {X : Type 0} (xs : List X) → reverse (reverse xs) ≡ xs
-reverse_reverse [] = refl
-reverse_reverse (x ∷ xs) =
-    ap reverse (reverse-append (x ∷ []) xs)
-    ∙ reverse-append (reverse xs) (x ∷ [])
-    ∙ ap (λ ys. x ∷ ys) (reverse_reverse xs)
-
 turned_back : {X Y : Type 0} (f : X → Y) (xs : List X) → reverse (map f (reverse xs)) ≡ map f xs
-turned_back f xs = ap reverse (map-reverse f xs) ∙ reverse_reverse (map f xs)
+turned_back f xs = ap reverse (map_reverse f xs) ∙ reverse-reverse (map f xs)
 
 pub visits_start : (links held : List Link) (found next : List Held) (c : Held) → found ≡ []
     → next ≡ c ∷ [] → held ≡ reverse links

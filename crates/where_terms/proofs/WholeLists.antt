@@ -29,7 +29,8 @@ use Rattle.std.proofs.lemmas.Bool.{ne_eqb}
 use Rattle.std.specs.List.{flat_map}
 use Rattle.sql_meaning.specs.Statements.{Conjunct, exprs_of}
 use Rattle.where_terms.proofs.Constants.{constants_suffice}
-use Rattle.where_terms.proofs.Steps.{drop_cut, made_more}
+use Rattle.list_laws.proofs.Turns.{dropped_or, map_same}
+use Rattle.where_terms.proofs.Steps.{made_more}
 
 abbrev gathered_of : Schema → List Item → List Term → List Term → List BExpr → List Pair → ColumnRef
     → ColumnTerms
@@ -45,11 +46,6 @@ columns_are n (suc k) =
 
 sites_are : (w : ℕ) → sites_from 0 (w + 1) ≡ sites w
 sites_are w = rw add-one (ap (λ ss. AtRowid ∷ ss) (columns_are 0 w))
-
-map_same : {X Y : Type 0} (f g : X → Y) → ((x : X) → f x ≡ g x) → (xs : List X)
-    → map f xs ≡ map g xs
-map_same f g same [] = refl
-map_same f g same (x ∷ xs) = ap₂ (λ y ys. y ∷ ys) (same x) (map_same f g same xs)
 
 pub listed_is : (schema : Schema) (items : List Item) (item : ℕ) (own likes : List Term)
     (es cs : List BExpr) (ps : List Pair) (w : ℕ) → cs ≡ filter has_constant es
@@ -125,7 +121,7 @@ branches_turn schema b item number derives members i d made more columns whole b
     ∙ ap
     (λ ms. option_map (λ bs. made ++ bs)
     (branches_from schema b item number derives (plain_members ms)))
-    (sym (drop_cut members i d below))
+    (sym (dropped_or members i d below))
     ∙ inv
 
 none_without : (o : Option (List (List ColumnTerms))) → if_each_has_terms [] o ≡ None
@@ -149,7 +145,7 @@ branches_end schema b item number derives members i d made columns whole below i
     ∙ ap
     (λ ms. option_map (λ bs. made ++ bs)
     (branches_from schema b item number derives (plain_members ms)))
-    (sym (drop_cut members i d below))
+    (sym (dropped_or members i d below))
     ∙ inv
 
 pub none_mapped : {X Y : Type 0} (f : X → Y) (xs : List X) (b : Bool) → b ≡ (length xs == 0)

@@ -1,5 +1,5 @@
 -- The columns that pairs of columns join with a column, as the code makes their list.
-use Rattle.std.specs.Prelude.{Bool, List, [], ◌∷◌, cond, not}
+use Rattle.std.specs.Prelude.{List, [], not}
 use Rattle.std.specs.List.{filter}
 use Rattle.std.specs.Ordering.{eq_by_cmp}
 use Rattle.list_laws.specs.FirstComing.{keep_first}
@@ -12,9 +12,3 @@ abbrev pub linked_in : List Pair → ColumnRef → List ColumnRef
 linked_in ps c =
     keep_first (eq_by_cmp ref_cmp) []
     (sort_by ref_cmp (filter (λ d. not (same_ref d c)) (visited c ps)))
-
--- of members behind x, each that differs from the one before it
-abbrev pub dedup_behind : {X : Type 0} → (X → X → Bool) → X → List X → List X
-dedup_behind same x [] = []
-dedup_behind same x (y ∷ ys) =
-    cond (same x y) (dedup_behind same y ys) (y ∷ dedup_behind same y ys)

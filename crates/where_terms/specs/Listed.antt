@@ -63,3 +63,7 @@ or_found_at schema bound item number (Some c) =
 abbrev pub chosen_in : (Conjunct → Bool) → Option Conjunct → List BExpr
 chosen_in chosen None = []
 chosen_in chosen (Some c) = cond (chosen c) (c.expr ∷ []) []
+
+-- the conjunct may serve the item; or, where it derives, equalities may be derived from it
+abbrev pub may_help : Bool → Bound → ℕ → Conjunct → Bool
+may_help derives = cond derives may_derive may_serve

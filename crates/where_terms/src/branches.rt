@@ -26,7 +26,7 @@ use std::alloc::Global;
 /// Appends the members of an AND, and of each AND among them.
 #[cycle(flatten)]
 #[tactic(auto, using(crate::proofs::Lists::seen_lists))]
-fn flatten<'p>(list: &mut Vec<&'p BExpr<'p>>, expr: &'p BExpr<'p>) -> Result<(), Memory>
+pub(crate) fn flatten<'p>(list: &mut Vec<&'p BExpr<'p>>, expr: &'p BExpr<'p>) -> Result<(), Memory>
     ensures { OnOk result (map (λ e. expr_of e.now) list.new.items
         ≡ map (λ e. expr_of e.now) list.old.items ++ flat (expr_of expr.now)) }
 {

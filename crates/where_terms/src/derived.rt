@@ -63,18 +63,7 @@ fn compares_a_constant(expr: &BExpr) -> bool
 {
     match expr {
         BExpr::Cmp { left, right, .. } => names_none(left) || names_none(right),
-        BExpr::Lit(_) => false,
-        BExpr::Param(_) => false,
-        BExpr::Column { .. } => false,
-        BExpr::Rowid { .. } => false,
-        BExpr::Plus(_) => false,
-        BExpr::Collate(..) => false,
-        BExpr::OneOf { .. } => false,
-        BExpr::Like(..) => false,
-        BExpr::IsNull(..) => false,
-        BExpr::Not(_) => false,
-        BExpr::All(_) => false,
-        BExpr::Any(_) => false,
+        _ => false,
     }
 }
 

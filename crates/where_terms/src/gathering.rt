@@ -7,7 +7,6 @@ ghost use Rattle.where_terms.specs.Views.{term_of, column_terms_of};
 ghost use Rattle.where_terms.specs.Sorts.{test_of, of_kind_test};
 ghost use Rattle.where_terms.specs.Gathered.{equals_from, gathered_from};
 
-use crate::columns::is_same_column;
 use crate::derived::push_derived;
 use crate::linked::linked_to;
 use crate::links::Link;
@@ -15,7 +14,7 @@ use crate::{ColumnTerms, Term, TermKind};
 use bumpalo::Bump;
 use bumpalo::collections::into_bump_slice;
 use schema_model::Schema;
-use sql_bound::{BExpr, BItem, ColumnRef};
+use sql_bound::{BExpr, BItem, ColumnRef, is_same_column};
 use sql_value::{Memory, push};
 use std::alloc::Global;
 

@@ -5,6 +5,7 @@
 mod branches;
 mod columns;
 mod derived;
+mod direct;
 mod gathering;
 mod kind;
 mod likes;
@@ -18,6 +19,7 @@ mod serving;
 mod statement;
 mod term;
 
+pub use direct::{direct_branch_terms, direct_terms};
 pub use kind::TermKind;
 pub use statement::terms;
 pub use term::{ColumnTerms, ItemTerms, OrTerm, Term, Terms};

@@ -45,18 +45,7 @@ fn literal_bounds(alloc: Global, pattern: &BExpr) -> Result<Option<Range>, Memor
 {
     match pattern {
         BExpr::Lit(lit) => lit_bounds(alloc, lit),
-        BExpr::Param(_) => Ok(None),
-        BExpr::Column { .. } => Ok(None),
-        BExpr::Rowid { .. } => Ok(None),
-        BExpr::Plus(_) => Ok(None),
-        BExpr::Collate(..) => Ok(None),
-        BExpr::Cmp { .. } => Ok(None),
-        BExpr::OneOf { .. } => Ok(None),
-        BExpr::Like(..) => Ok(None),
-        BExpr::IsNull(..) => Ok(None),
-        BExpr::Not(_) => Ok(None),
-        BExpr::All(_) => Ok(None),
-        BExpr::Any(_) => Ok(None),
+        _ => Ok(None),
     }
 }
 
@@ -176,18 +165,7 @@ fn push_like<'p>(
                 push_column_range(alloc, arena, terms, schema, items, item, left, pattern)
             }
         }
-        BExpr::Lit(_) => Ok(()),
-        BExpr::Param(_) => Ok(()),
-        BExpr::Column { .. } => Ok(()),
-        BExpr::Rowid { .. } => Ok(()),
-        BExpr::Plus(_) => Ok(()),
-        BExpr::Collate(..) => Ok(()),
-        BExpr::Cmp { .. } => Ok(()),
-        BExpr::OneOf { .. } => Ok(()),
-        BExpr::IsNull(..) => Ok(()),
-        BExpr::Not(_) => Ok(()),
-        BExpr::All(_) => Ok(()),
-        BExpr::Any(_) => Ok(()),
+        _ => Ok(()),
     }
 }
 

@@ -2,12 +2,12 @@
 ghost use Rattle.std.specs.Prelude.{◌≡◌, ◌++◌, ◌∷◌, [], IfOk, OnOk, map, not};
 ghost use Rattle.std.specs.List.{filter};
 ghost use Rattle.std.specs.Ordering.{eq_by_cmp};
-ghost use Rattle.list_laws.specs.FirstComing.{keep_first};
+ghost use Rattle.list_laws.specs.FirstComing.{keep_first, dedup_behind};
 ghost use Rattle.list_laws.specs.Order.{Ascends, sort_by};
 ghost use Rattle.sql_meaning.specs.TermLists as meant;
 ghost use Rattle.sql_bound.specs.Columns.{column_ref_of};
 ghost use Rattle.where_terms.specs.Views.{link_of};
-ghost use Rattle.where_terms.specs.Linked.{linked_in, dedup_behind};
+ghost use Rattle.where_terms.specs.Linked.{linked_in};
 
 use crate::columns::{is_same_ref, site_number};
 use crate::links::Link;

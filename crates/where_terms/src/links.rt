@@ -11,11 +11,11 @@ ghost use Rattle.sql_bound.specs.Expressions.{expr_of};
 ghost use Rattle.sql_bound.specs.Statements.{item_of};
 ghost use Rattle.where_terms.specs.Views.{link_of};
 
-use crate::columns::{class_number, is_same_collation};
+use crate::columns::class_number;
 use schema_model::Schema;
 use sql_bound::{BExpr, BItem, ColumnRef, bare_column, own_column};
 use sql_tree::Op;
-use sql_value::{Collation, Memory, push};
+use sql_value::{Collation, Memory, is_same_collation, push};
 use std::alloc::Global;
 
 /// Two columns of different items that a conjunct says are equal.
@@ -89,18 +89,7 @@ fn found_link(schema: &Schema, items: &[BItem], expr: &BExpr) -> Option<Link>
             Op::Gt => None,
             Op::Ge => None,
         },
-        BExpr::Lit(_) => None,
-        BExpr::Param(_) => None,
-        BExpr::Column { .. } => None,
-        BExpr::Rowid { .. } => None,
-        BExpr::Plus(_) => None,
-        BExpr::Collate(..) => None,
-        BExpr::OneOf { .. } => None,
-        BExpr::Like(..) => None,
-        BExpr::IsNull(..) => None,
-        BExpr::Not(_) => None,
-        BExpr::All(_) => None,
-        BExpr::Any(_) => None,
+        _ => None,
     }
 }
 

@@ -67,18 +67,7 @@ fn or_term_in<'p>(
 {
     match expr {
         BExpr::Any(list) => or_term(alloc, arena, schema, bound, item, number, *list),
-        BExpr::Lit(_) => Ok(None),
-        BExpr::Param(_) => Ok(None),
-        BExpr::Column { .. } => Ok(None),
-        BExpr::Rowid { .. } => Ok(None),
-        BExpr::Plus(_) => Ok(None),
-        BExpr::Collate(..) => Ok(None),
-        BExpr::Cmp { .. } => Ok(None),
-        BExpr::OneOf { .. } => Ok(None),
-        BExpr::Like(..) => Ok(None),
-        BExpr::IsNull(..) => Ok(None),
-        BExpr::Not(_) => Ok(None),
-        BExpr::All(_) => Ok(None),
+        _ => Ok(None),
     }
 }
 

@@ -15,13 +15,14 @@ ghost use Rattle.where_terms.specs.Views.{served_of};
 ghost use Rattle.where_terms.specs.Owns.{own_at_item};
 
 use crate::TermKind;
-use crate::columns::{is_same_collation, is_same_column};
 use bumpalo::Bump;
 use bumpalo::collections::into_bump_slice;
 use schema_model::Schema;
-use sql_bound::{BExpr, BExprs, BItem, KeyExpr, Keys, bare_column, names_item, own_column};
+use sql_bound::{
+    BExpr, BExprs, BItem, KeyExpr, Keys, bare_column, is_same_column, names_item, own_column,
+};
 use sql_tree::Op;
-use sql_value::{Affinity, Collation, Memory, push};
+use sql_value::{Affinity, Collation, Memory, is_same_collation, push};
 
 /// A term but for its conjunct.
 #[derive(Clone, Copy)]
@@ -139,18 +140,7 @@ pub(crate) fn comparison_served<'p>(item: u32, expr: &'p BExpr<'p>) -> Option<Se
                 side_served(item, flipped(*op), high, low, *coll)
             }
         }
-        BExpr::Lit(_) => None,
-        BExpr::Param(_) => None,
-        BExpr::Column { .. } => None,
-        BExpr::Rowid { .. } => None,
-        BExpr::Plus(_) => None,
-        BExpr::Collate(..) => None,
-        BExpr::OneOf { .. } => None,
-        BExpr::Like(..) => None,
-        BExpr::IsNull(..) => None,
-        BExpr::Not(_) => None,
-        BExpr::All(_) => None,
-        BExpr::Any(_) => None,
+        _ => None,
     }
 }
 
@@ -331,14 +321,6 @@ pub(crate) fn serving<'p>(
             }
         }
         BExpr::Any(members) => or_served(arena, item, *members),
-        BExpr::Lit(_) => Ok(None),
-        BExpr::Param(_) => Ok(None),
-        BExpr::Column { .. } => Ok(None),
-        BExpr::Rowid { .. } => Ok(None),
-        BExpr::Plus(_) => Ok(None),
-        BExpr::Collate(..) => Ok(None),
-        BExpr::Like(..) => Ok(None),
-        BExpr::Not(_) => Ok(None),
-        BExpr::All(_) => Ok(None),
+        _ => Ok(None),
     }
 }

@@ -1,16 +1,16 @@
 //! The terms of a statement.
 ghost use Rattle.std.specs.Prelude.{◌≡◌, ◌++◌, ◌<◌, ◌≤◌, IfOk, OnOk, length, map, option_map};
-ghost use Rattle.std.specs.Prelude.{slice_get};
+ghost use Rattle.std.specs.Prelude.{slice_get, IsSomeAnd};
 ghost use Rattle.std.specs.Option.{option_to_list};
 ghost use Rattle.std.specs.List.{filter};
 ghost use Rattle.sql_meaning.specs.TermLists as meant;
 ghost use Rattle.sql_meaning.specs.Statements.{exprs_of};
-ghost use Rattle.sql_meaning.specs.Conjuncts as conjuncts;
 ghost use Rattle.schema_model.specs.PlainSchemas.{plain_schema};
 ghost use Rattle.sql_bound.specs.Expressions.{expr_of};
 ghost use Rattle.sql_bound.specs.Statements.{bound_of, needs_of};
 ghost use Rattle.sql_bound.specs.Fits.{Fits};
 ghost use Rattle.where_terms.specs.Views.{column_terms_of, item_terms_of, terms_of};
+ghost use Rattle.where_terms.specs.Listed as listed;
 ghost use Rattle.where_terms.specs.Listed.{chosen_in};
 ghost use Rattle.where_terms.specs.Marked.{AllAreMarked};
 
@@ -26,28 +26,32 @@ use sql_bound::{BExpr, Bound, may_derive, may_serve};
 use sql_value::{Memory, push};
 use std::alloc::Global;
 
-fn derivable_at<'p>(bound: &'p Bound<'p>, item: u32, number: u32) -> Option<&'p BExpr<'p>>
+fn may_help(bound: &Bound, item: u32, number: u32, derives: bool) -> bool
     requires item { item < length bound.now.items.now }
     requires number { number < length bound.now.conjuncts.now }
-    ensures { option_to_list (option_map (λ e. expr_of e.now) result)
-        ≡ chosen_in (conjuncts.may_derive (bound_of bound.now) item)
-        (slice_get (bound_of bound.now).conjuncts number) }
+    ensures { IsSomeAnd (slice_get (bound_of bound.now).conjuncts number)
+        (λ c. result ≡ listed.may_help derives (bound_of bound.now) item c) }
 {
-    if may_derive(bound, number, item) {
-        Some(bound.conjuncts[number as usize].expr)
+    if derives {
+        may_derive(bound, number, item)
     } else {
-        None
+        may_serve(bound, number, item)
     }
 }
 
-fn serving_at<'p>(bound: &'p Bound<'p>, item: u32, number: u32) -> Option<&'p BExpr<'p>>
+fn helping_at<'p>(
+    bound: &'p Bound<'p>,
+    item: u32,
+    number: u32,
+    derives: bool,
+) -> Option<&'p BExpr<'p>>
     requires item { item < length bound.now.items.now }
     requires number { number < length bound.now.conjuncts.now }
     ensures { option_to_list (option_map (λ e. expr_of e.now) result)
-        ≡ chosen_in (conjuncts.may_serve (bound_of bound.now) item)
+        ≡ chosen_in (listed.may_help derives (bound_of bound.now) item)
         (slice_get (bound_of bound.now).conjuncts number) }
 {
-    if may_serve(bound, number, item) {
+    if may_help(bound, item, number, derives) {
         Some(bound.conjuncts[number as usize].expr)
     } else {
         None
@@ -65,40 +69,23 @@ fn push_expr<'p>(list: &mut Vec<&'p BExpr<'p>>, expr: Option<&'p BExpr<'p>>) -> 
     }
 }
 
-/// The conjuncts from which equalities may be derived for the item.
-fn derivable<'p>(
+/// The conjuncts that may serve the item; or, where it derives, those from which equalities may be
+/// derived for it.
+fn helping<'p>(
     alloc: Global,
     bound: &'p Bound<'p>,
     item: u32,
+    derives: bool,
 ) -> Result<Vec<&'p BExpr<'p>>, Memory>
     requires item { item < length bound.now.items.now }
     requires few { length bound.now.conjuncts.now ≤ 256 }
     ensures { IfOk result (λ list. map (λ e. expr_of e.now) list.items
-        ≡ exprs_of (filter (conjuncts.may_derive (bound_of bound.now) item)
+        ≡ exprs_of (filter (listed.may_help derives (bound_of bound.now) item)
         (bound_of bound.now).conjuncts)) }
 {
     let mut list: Vec<&'p BExpr<'p>> = Vec::new(alloc);
     for number in 0..bound.conjuncts.len() as u32 {
-        push_expr(&mut list, derivable_at(bound, item, number))?;
-    }
-    Ok(list)
-}
-
-/// The conjuncts that may serve the item.
-fn servable<'p>(
-    alloc: Global,
-    bound: &'p Bound<'p>,
-    item: u32,
-) -> Result<Vec<&'p BExpr<'p>>, Memory>
-    requires item { item < length bound.now.items.now }
-    requires few { length bound.now.conjuncts.now ≤ 256 }
-    ensures { IfOk result (λ list. map (λ e. expr_of e.now) list.items
-        ≡ exprs_of (filter (conjuncts.may_serve (bound_of bound.now) item)
-        (bound_of bound.now).conjuncts)) }
-{
-    let mut list: Vec<&'p BExpr<'p>> = Vec::new(alloc);
-    for number in 0..bound.conjuncts.len() as u32 {
-        push_expr(&mut list, serving_at(bound, item, number))?;
+        push_expr(&mut list, helping_at(bound, item, number, derives))?;
     }
     Ok(list)
 }
@@ -117,9 +104,9 @@ fn item_columns<'p>(
         ≡ meant.item_terms (plain_schema schema.now) (bound_of bound.now) item) }
 {
     let own = own_terms(alloc, arena, schema, bound, item)?;
-    let served = servable(alloc, bound, item)?;
+    let served = helping(alloc, bound, item, false)?;
     let likes = like_terms(alloc, arena, schema, bound.items, item, served.as_slice())?;
-    let list = derivable(alloc, bound, item)?;
+    let list = helping(alloc, bound, item, true)?;
     let columns = columns(
         alloc,
         arena,

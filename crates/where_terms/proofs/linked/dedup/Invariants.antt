@@ -2,7 +2,7 @@ use Rattle.std.proofs.Common.{◌≡◌, ◌++◌, ◌∷◌, drop, map}
 use Rattle.std.specs.Ordering.{eq_by_cmp}
 use Rattle.sql_meaning.specs.TermLists.{ref_cmp}
 use Rattle.sql_bound.specs.Columns.{column_ref_of}
-use Rattle.where_terms.specs.Linked.{dedup_behind}
+use Rattle.list_laws.specs.FirstComing.{dedup_behind}
 use Rattle.where_terms.proofs.linked.dedup.Given as goal
 
 abbrev pub invariant-loop-c : goal.invariant-loop-c

@@ -7,7 +7,7 @@ use Rattle.list_laws.proofs.Orders.{Ascends-sort_by}
 use Rattle.sql_meaning.specs.Expressions.{ColumnRef}
 use Rattle.sql_meaning.specs.TermLists.{ref_cmp, same_ref}
 use Rattle.sql_bound.specs.Columns.{column_ref_of}
-use Rattle.where_terms.proofs.MappedSorts.{ref_total}
+use Rattle.where_terms.proofs.ColumnOrder.{ref_total}
 use Rattle.where_terms.proofs.linked.linked_to.Goals as goal
 
 pub returns : goal.returns

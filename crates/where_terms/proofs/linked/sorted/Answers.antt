@@ -4,11 +4,12 @@ use Rattle.std.specs.Cmp.{IsTotalOrder, IsStrictWeakOrder}
 use Rattle.std.proofs.lemmas.List.Sorted.{ranks_by}
 use Rattle.std.proofs.lemmas.Fn.{always_returns_same}
 use Rattle.std.proofs.lemmas.Cmp.{on_total}
+use Rattle.list_laws.proofs.SortedViews.{sort_by-map}
 use Rattle.list_laws.proofs.StableSorts.{sort_by_is_the_only}
 use Rattle.sql_meaning.specs.TermLists.{ref_cmp}
 use Rattle.sql_bound.specs.Columns.{column_ref_of}
 use Rattle.sql_bound.specs.declared.columns.ColumnRef.{ColumnRef}
-use Rattle.where_terms.proofs.MappedSorts.{sort_by-map, ref_total}
+use Rattle.where_terms.proofs.ColumnOrder.{ref_total}
 use Rattle.where_terms.proofs.linked.sorted.Goals as goal
 
 pub returns : goal.returns
