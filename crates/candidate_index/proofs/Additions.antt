@@ -80,7 +80,7 @@ pub why_memory : (all : List plain.Index) (fault : CandidateFault) → fault ≡
     → IsWhy all fault
 why_memory all fault e = subst (IsWhy all) (sym e) tt
 
-drop_first : {X : Type 0} (xs ys : List X) → drop (length xs) (xs ++ ys) ≡ ys
+pub drop_first : {X : Type 0} (xs ys : List X) → drop (length xs) (xs ++ ys) ≡ ys
 drop_first [] ys = refl
 drop_first (x ∷ xs) ys = drop_first xs ys
 

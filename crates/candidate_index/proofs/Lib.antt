@@ -9,3 +9,4 @@ pub mod UsableIndexes
 pub mod StartColumns
 pub mod Additions
 pub mod ScanLists
+pub mod ServedLists

@@ -3,28 +3,7 @@ use Rattle.std.proofs.Common.{◌≡◌, ◌⊎◌, inl, inr, ℕ, zero, suc, �
 use Rattle.std.proofs.Common.{true, false, cond, not, ◌||◌, List, [], ◌∷◌, ◌++◌, length, position}
 use Rattle.std.proofs.Common.{Option, None, Some, get_or, refl, ap, ◌∙◌, arith, if◌then◌else◌}
 use Rattle.std.specs.List.{AllByRecursion, list_any, position_or_len}
-use Rattle.std.proofs.lemmas.List.{length_push}
-use Rattle.std.proofs.lemmas.List.Folds.{position_or_len_push}
 use Rattle.std.proofs.lemmas.List.Sums.{prefix_len-le-length}
-
-abbrev pub or_else : {X : Type 0} → Option X → Option X → Option X
-or_else None other = other
-or_else (Some x) other = Some x
-
-position_end : (n len : ℕ) (b : Bool) → n ≤ len
-    → cond (nat_lt (cond (eqb n len) (len + cond b 0 1) n) (len + 1))
-    (Some (cond (eqb n len) (len + cond b 0 1) n)) None
-    ≡ or_else (cond (nat_lt n len) (Some n) None) (cond b (Some len) None)
-position_end n len true h = grind arith
-position_end n len false h = grind arith
-
-pub position_push : {X : Type 0} (test : X → Bool) (xs : List X) (x : X)
-    → position test (xs ++ x ∷ [])
-    ≡ or_else (position test xs) (cond (test x) (Some (length xs)) None)
-position_push test xs x =
-    rw (position_or_len_push test xs x, length_push xs x)
-    (position_end (position_or_len test xs) (length xs) (test x)
-    (prefix_len-le-length (λ y. not (test y)) xs))
 
 any_step : (b r : Bool) (n len : ℕ) → r ≡ nat_lt n len
     → (b || r) ≡ nat_lt (cond (not b) (1 + n) 0) (suc len)

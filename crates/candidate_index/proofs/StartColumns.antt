@@ -18,7 +18,7 @@ use Rattle.schema_model.specs.declared.indexes.IndexColumn.{IndexColumn}
 use Rattle.candidate_index.specs.Starts.{has_column}
 use Rattle.candidate_index.proofs.TreeWalks.{drop_step}
 
-turned : (m n : ℕ) → (m == n) ≡ (n == m)
+pub turned : (m n : ℕ) → (m == n) ≡ (n == m)
 turned m n =
     alike (m == n) (n == m) (λ e. eq-eqb n m (sym (eqb-true m n e)))
     (λ e. eq-eqb m n (sym (eqb-true n m e)))
@@ -26,11 +26,11 @@ turned m n =
 abbrev pub seen : List IndexColumn → List plain.IndexColumn
 seen columns = map plain_index_column columns
 
-has_is : (start : List IndexColumn) (c : IndexColumn)
-    → has same_column (seen start) (plain_index_column c) ≡ has_column c.column start
+pub has_is : (start : List IndexColumn) (c : plain.IndexColumn)
+    → has same_column (seen start) c ≡ has_column c.column start
 has_is [] c = refl
 has_is (s ∷ ss) c =
-    ap (λ b. b || has same_column (seen ss) (plain_index_column c)) (turned s.column c.column)
+    ap (λ b. b || has same_column (seen ss) c) (turned s.column c.column)
     ∙ ap (λ b. (c.column == s.column) || b) (has_is ss c)
 
 apart_cons : (start rest : List IndexColumn) (c : IndexColumn) (b : Bool)
@@ -40,7 +40,7 @@ apart_cons : (start rest : List IndexColumn) (c : IndexColumn) (b : Bool)
     (apart_from (seen start) (seen rest))
 apart_cons start rest c b e =
     ap (λ k. cond (not k) (plain_index_column c ∷ apart_from (seen start) (seen rest))
-    (apart_from (seen start) (seen rest))) (has_is start c ∙ e)
+    (apart_from (seen start) (seen rest))) (has_is start (plain_index_column c) ∙ e)
 
 -- a column that the start has is left out, and any other stays
 pub apart_there : (start others : List IndexColumn) (i : ℕ) (d : IndexColumn) → i < length others

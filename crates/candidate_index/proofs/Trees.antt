@@ -20,7 +20,8 @@ use Rattle.candidate_index.specs.Beginnings.{with_step, with_steps, IsRooted, Ar
 use Rattle.candidate_index.specs.declared.beginnings.Node.{Node}
 use Rattle.candidate_index.specs.declared.beginnings.Node.TheVariants.{Table, Behind}
 use Rattle.candidate_index.specs.declared.beginnings.Step.{Step}
-use Rattle.candidate_index.proofs.Places.{or_else, position_push, there_or_new, IsThere, IsNew}
+use Rattle.schema_model.proofs.ColumnPlaces.{or_else, position_push}
+use Rattle.candidate_index.proofs.Places.{there_or_new, IsThere, IsNew}
 use Rattle.candidate_index.proofs.Places.{all_at}
 use Rattle.candidate_index.proofs.Steps.{entry_of, step_is, step_same, entry_is, entry_same}
 

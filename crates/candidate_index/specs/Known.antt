@@ -1,12 +1,13 @@
 -- What candidates stand behind: the usable indexes of a schema; and the candidates of scans.
 use Rattle.std.specs.Prelude.{◌≡◌, ◌<◌, List, map, length, drop, true, false}
-use Rattle.std.specs.List.{filter}
+use Rattle.std.specs.List.{filter, AllByRecursion}
 use Rattle.sql_meaning.specs.Schemas as plain
 use Rattle.plan_choice.specs.Scans as asked
 use Rattle.plan_choice.specs.Candidates.{with_candidates}
-use Rattle.schema_model.specs.PlainSchemas.{plain_index}
+use Rattle.schema_model.specs.PlainSchemas.{plain_index, plain_schema}
 use Rattle.schema_model.specs.CreateTexts.{AreInTable}
 use Rattle.schema_model.specs.Schemas.{Schema, columns_at}
+use Rattle.schema_model.specs.UsableIndexes.{IsEmptyUnlessUsable}
 use Rattle.schema_model.specs.declared.tables.Table.{Table}
 use Rattle.schema_model.specs.declared.indexes.Index.{Index}
 
@@ -30,3 +31,10 @@ pub record IsCandidateOf (tables : List Table) (index : Index) : Type 0 where
   pub usable : index.usable ≡ true
   pub table : index.table < length tables
   pub columns : AreInTable (columns_at tables index.table) index.columns
+
+-- where indexes that aren't usable have no columns, candidates stand behind all indexes alike
+abbrev pub UnusableServeNothing : Type 0
+UnusableServeNothing =
+    (s : Schema) (scans : List asked.Scan) → AllByRecursion IsEmptyUnlessUsable s.indexes
+    → candidates_of s scans
+    ≡ drop (length (plain_schema s).indexes) (with_candidates (plain_schema s).indexes scans)

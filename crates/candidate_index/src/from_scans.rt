@@ -5,7 +5,7 @@ ghost use Rattle.plan_choice.specs.Candidates.{candidate_limit};
 ghost use Rattle.plan_choice.specs.CandidateNames.{candidate_names};
 ghost use Rattle.schema_model.specs.PlainSchemas.{plain_index};
 ghost use Rattle.candidate_index.specs.Faults.{IsWhy};
-ghost use Rattle.candidate_index.specs.Known.{candidates_of, IsCandidateOf};
+ghost use Rattle.candidate_index.specs.Known.{candidates_of, IsCandidateOf, UnusableServeNothing};
 ghost use Rattle.candidate_index.specs.Naming.{naming};
 ghost use Rattle.candidate_index.specs.Scans.{scans_of, AllScansOf};
 
@@ -44,3 +44,9 @@ pub fn candidates(
     }
     Ok(search.found)
 }
+
+/// A law: an index without columns serves nothing. So where each index that isn't usable has none,
+/// as in the schema of a dump, the candidates are those that stand behind all indexes.
+pub fn unusable_indexes_serve_nothing()
+    ensures { UnusableServeNothing }
+{}

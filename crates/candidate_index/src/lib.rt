@@ -13,4 +13,5 @@ mod starts;
 
 pub use asked::{JoinColumns, JoinLists, Scan, ScanColumn, ScanColumns, Scans};
 pub use found::{CANDIDATE_LIMIT, CandidateFault, Candidates};
-pub use from_scans::candidates;
+pub use from_scans::{candidates, unusable_indexes_serve_nothing};
+pub use starts::numbers_of;

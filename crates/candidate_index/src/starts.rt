@@ -20,7 +20,8 @@ fn append(written: &mut IndexColumns, columns: &[IndexColumn]) -> Result<(), Mem
     Ok(())
 }
 
-fn numbers_of(alloc: Global, columns: &[IndexColumn]) -> Result<IndexSet<u32>, Memory>
+/// The numbers of columns, each found with one hash.
+pub fn numbers_of(alloc: Global, columns: &[IndexColumn]) -> Result<IndexSet<u32>, Memory>
     ensures { IfOk result (λ numbers. (number : ℕ) →
         list_any (nat_eq number) numbers.keys ≡ has_column number columns.now) }
 {
