@@ -1,0 +1,12 @@
+pub mod SeenMembers
+pub mod FirstColumns
+pub mod JoinedItems
+pub mod KeyTurns
+pub mod NamedAlone
+pub mod ScanParts
+pub mod TermOrder
+pub mod BranchTurns
+pub mod Lists
+pub mod PlacedTerms
+pub mod SoundScans
+pub mod ItemTurns
