@@ -7,30 +7,8 @@ ghost use Rattle.sql_value.specs.View.{plain_collation};
 ghost use Rattle.sql_bound.specs.Columns.{site_of};
 ghost use Rattle.sql_bound.specs.Statements.{sort_key_of};
 
-use sql_bound::{BKey, bare_column};
-use sql_value::Collation;
-
-pub(crate) fn is_same_collation(a: Collation, b: Collation) -> bool
-    ensures { result ≡ orders.same_collation (plain_collation a) (plain_collation b) }
-{
-    match (a, b) {
-        (Collation::Binary, Collation::Binary) => true,
-        (Collation::Nocase, Collation::Nocase) => true,
-        (Collation::Rtrim, Collation::Rtrim) => true,
-        _ => false,
-    }
-}
-
-/// Whether two numbers are of the same column; none is the rowid.
-pub(crate) fn is_same_column(a: Option<u32>, b: Option<u32>) -> bool
-    ensures { result ≡ orders.same_site (site_of a) (site_of b) }
-{
-    match (a, b) {
-        (None, None) => true,
-        (Some(a), Some(b)) => a == b,
-        _ => false,
-    }
-}
+use sql_bound::{BKey, bare_column, is_same_column};
+use sql_value::{Collation, is_same_collation};
 
 /// Whether the key is a column of the item.
 pub(crate) fn is_of_item(key: &BKey, item: u32) -> bool

@@ -8,11 +8,10 @@ ghost use Rattle.sql_bound.specs.Statements.{sort_key_of};
 ghost use Rattle.plan_form.specs.Paths.{part_of};
 ghost use Rattle.loop_orders.specs.Walks.{held_by, plain_columns, plain_parts, ties_along};
 
-use crate::columns::{is_same_collation, is_same_column};
 use plan_form::EqPart;
 use schema_model::IndexColumn;
-use sql_bound::{BKey, bare_column};
-use sql_value::Collation;
+use sql_bound::{BKey, bare_column, is_same_column};
+use sql_value::{Collation, is_same_collation};
 
 /// The walk of an item along an index, some of whose first columns equality parts hold.
 #[derive(Clone, Copy)]

@@ -1,5 +1,5 @@
 //! The order state of nested loops.
-ghost use Rattle.std.specs.Prelude.{◌≡◌, ◌<◌, ◌^◌, map, length, slice_get, None, [], false, fold};
+ghost use Rattle.std.specs.Prelude.{◌≡◌, ◌<◌, map, length, slice_get, None, [], false, fold};
 ghost use Rattle.std.specs.List.{AllByRecursion};
 ghost use Rattle.sql_meaning.specs.Fitting.{PathFits};
 ghost use Rattle.sql_meaning.specs.OrderState as meant;
@@ -205,13 +205,12 @@ pub fn walks_backward(
 }
 
 /// Done 0, lost 1, and open 2 more than the number of keys that are passed. Takes no memory.
-pub fn order_number(bound: &Bound, state: OrderState) -> u32
-    requires { length bound.now.keys.now < 2 ^ 31 }
+pub fn order_number(bound: &Bound, state: OrderState) -> u64
     ensures { result ≡ meant.state_number (bound_of bound.now).keys (state_of state.entry) }
 {
     match state {
         OrderState::Done => 0,
         OrderState::Lost => 1,
-        OrderState::Open(left) => 2 + bound.keys.len().saturating_sub(left.len()) as u32,
+        OrderState::Open(left) => 2 + bound.keys.len().saturating_sub(left.len()) as u64,
     }
 }
