@@ -1,11 +1,10 @@
 -- Advice: its plans mean their statements, and what it recommends is what they use.
 use Rattle.std.specs.List.{AllByRecursion, filter}
 use Rattle.std.proofs.Common.{◌≡◌, ◌<◌, ◌≤◌, ℕ, zero, suc, ◌+◌, Bool, true, false, cond, map}
-use Rattle.std.proofs.Common.{◌||◌, ◌==◌, List, [], ◌∷◌, length, refl, sym, ap, ◌∙◌, subst, arith}
-use Rattle.std.proofs.lemmas.Bool.{eqb-true}
+use Rattle.std.proofs.Common.{List, [], ◌∷◌, length, arith}
 use Rattle.list_laws.proofs.Lists.{all_map, all_filter, filter_all}
 use Rattle.sql_meaning.specs.Schemas.{Schema, Index}
-use Rattle.sql_meaning.specs.Statements.{Bound, has_number, numbers_from, FitsStatement}
+use Rattle.sql_meaning.specs.Statements.{Bound, numbers_from, FitsStatement}
 use Rattle.sql_meaning.specs.Asked.{Means}
 use Rattle.plan_choice.specs.Figures.{Figures}
 use Rattle.plan_choice.specs.Settings.{Statement, setting}
@@ -16,6 +15,7 @@ use Rattle.sql_meaning.specs.Offers.{IsPlannable}
 use Rattle.plan_choice.specs.AdviceLaws.{AdvicePlansMean, AdviceCostsNoMore, AreRising, IsUse}
 use Rattle.plan_choice.specs.AdviceLaws.{AreUses}
 use Rattle.plan_choice.specs.AdviceLaws.{NamesWhatPlansUse}
+use Rattle.sql_meaning.proofs.Plans.{has_all}
 use Rattle.sql_meaning.proofs.SameTables.{conversions}
 use Rattle.sql_meaning.specs.Schemas.{with_indexes}
 use Rattle.plan_choice.proofs.ChosenCosts.{chosen_plans_cost_no_more}
@@ -83,17 +83,6 @@ filter_rises p start (suc n) =
     (all_map _ _ (numbers_from (start + 1) n) (λ m l. omega (arith, l))
     (numbers_after (start + 1) n)))
     (filter_rises p (start + 1) n)
-
-has_case : (P : ℕ → Type 0) (m : ℕ) (ms : List ℕ) (n : ℕ) (b : Bool) → (n == m) ≡ b → P m
-    → (has_number n ms ≡ true → P n) → has_number n (m ∷ ms) ≡ true → P n
-has_case P m ms n true e p f h = subst P (sym (eqb-true n m e)) p
-has_case P m ms n false e p f h = f (ap (λ b. b || has_number n ms) (sym e) ∙ h)
-
--- what holds of each member holds of a number that is one
-has_all : (P : ℕ → Type 0) (ns : List ℕ) (n : ℕ) → AllByRecursion P ns → has_number n ns ≡ true
-    → P n
-has_all P [] n h e = absurd (cc)
-has_all P (m ∷ ms) n h e = has_case P m ms n (n == m) refl h.0 (has_all P ms n h.1) e
 
 below : (own count : ℕ) (plans : List Chosen)
     → AllByRecursion (λ m. m < count) (used_of own count plans)

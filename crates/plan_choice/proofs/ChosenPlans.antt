@@ -4,6 +4,7 @@ use Rattle.std.proofs.Common.{◌≡◌, ◌≢◌, ◌<◌, ℕ, zero, suc, ◌
 use Rattle.std.proofs.Common.{◌&&◌, ◌==◌, List, [], ◌∷◌, length, map, refl, sym, ap, ap₂, ◌∙◌}
 use Rattle.std.proofs.Common.{subst, arith, slice_index_or}
 use Rattle.list_laws.specs.Nest.{Rearranges, same, next, swapped, after}
+use Rattle.list_laws.proofs.Bools.{or_turn}
 use Rattle.list_laws.proofs.Lists.{all_map, all_always}
 use Rattle.sql_meaning.specs.Expressions.{names}
 use Rattle.sql_meaning.specs.Schemas.{Schema}
@@ -26,18 +27,12 @@ use Rattle.plan_choice.proofs.SoundPrefixes.{IsOwn, IsPrefix, AreIn, free_in}
 use Rattle.plan_choice.proofs.SoundLevels.{last_is, written_is}
 
 -- the same numbers in another order
-or_swap : (a b c : Bool) → (a || (b || c)) ≡ (b || (a || c))
-or_swap true true c = refl
-or_swap true false c = refl
-or_swap false true c = refl
-or_swap false false c = refl
-
 has_same : (free : ℕ → Bool) (is js : List ℕ) (a : ℕ) → Rearranges free is js
     → has_number a is ≡ has_number a js
 has_same free is js a (same items) = refl
 has_same free is js a (next i items others r) =
     ap (λ b. (a == i) || b) (has_same free items others a r)
-has_same free is js a (swapped i j items n f g) = or_swap (a == i) (a == j) (has_number a items)
+has_same free is js a (swapped i j items n f g) = or_turn (a == i) (a == j) (has_number a items)
 has_same free is js a (after items others more r q) =
     has_same free items others a r ∙ has_same free others more a q
 

@@ -19,6 +19,7 @@ use Rattle.plan_choice.specs.Costs.{Shape, WholeTable, CoveringScan, PlainScan, 
 use Rattle.plan_choice.specs.Costs.{CoveringSeek}
 use Rattle.plan_choice.specs.Costs.{PlainSeek, run_cost, Size, sized, seeks_of, within_bounds}
 use Rattle.plan_choice.specs.Costs.{rowid_entries, join_sizes, size_of, sizes_from}
+use Rattle.plan_choice.specs.CostLaws.{SizeWithin, ArePlain, IsFlat}
 use Rattle.plan_choice.specs.FigureLaws.{AreSmall}
 
 pub below_case : (b : Bool) (n m k : ℕ) → n ≤ k → m ≤ k → cond b n m ≤ k
@@ -85,7 +86,7 @@ none_within d k (e ∷ es) h l =
 step_far : (d : ℕ) → 50 ≤ d → sum_step d ≡ 0
 step_far d h = none_within d 49 step_ends (each_within 49 step_ends refl) (omega (arith, h))
 
-log_add_small : (a b k : ℕ) → a ≤ k → b ≤ k → log_add a b ≤ k + 10
+pub log_add_small : (a b k : ℕ) → a ≤ k → b ≤ k → log_add a b ≤ k + 10
 log_add_small a b k h l =
     let most : max a b ≤ k = max-le h l in
     let step = sum_step_small (distance a b) in omega (arith, most, step)
@@ -127,96 +128,82 @@ run_small CoveringSeek rows entries seeks h l =
 run_small PlainSeek rows entries seeks h l =
     seek_run_small rows entries seeks 21 h l (omega arith)
 
-pub record SizeWithin (most : ℕ) (z : Size) : Type 0 where
-  pub run : z.run ≤ most
-  pub entries : z.entries ≤ 1000
-
 sized_small : (shape : Shape) (rows entries seeks : ℕ) → entries ≤ 1000 → seeks ≤ 100000
     → SizeWithin 100649 (sized shape rows entries seeks)
 sized_small shape rows entries seeks h l =
     record { run = run_small shape rows entries seeks h l; entries = h }
 
-tables_small : (f : Figures) → AreSmall f → (table : ℕ) → table_rows f table ≤ 1000
+pub tables_small : (f : Figures) → AreSmall f → (table : ℕ) → table_rows f table ≤ 1000
 tables_small f h table = in_list f.tables table 1000 h.tables
 
-part_small : (rows : ℕ) (part : EqPart) → rows ≤ 1000 → rowid_entries rows part ≤ 1000
+pub part_small : (rows : ℕ) (part : EqPart) → rows ≤ 1000 → rowid_entries rows part ≤ 1000
 part_small rows (OneKey key) h = omega arith
 part_small rows (ManyKeys keys) h =
     let l = min-le_left rows (seeks_of (ManyKeys keys ∷ [])) in omega (arith, h, l)
 part_small rows NullKey h = omega arith
 
-seeks_small : (eqs : List EqPart) → seeks_of eqs ≤ 100000
+pub seeks_small : (eqs : List EqPart) → seeks_of eqs ≤ 100000
 seeks_small eqs = min-le_left 100000 _
 
-plain_size : (f : Figures) → AreSmall f → (table : ℕ) (covering : Bool) (path : Path)
-    → is_union path ≡ false → SizeWithin 100649 (size_of f table covering path)
-plain_size f h table covering TableScan u =
-    sized_small WholeTable (table_rows f table) (table_rows f table) 0 (tables_small f h table)
-    (omega arith)
-plain_size f h table covering (RowidEq part) u =
+pub plain_size : (f : Figures) (table : ℕ) (covering : Bool) (path : Path)
+    → table_rows f table ≤ 1000 → is_union path ≡ false
+    → SizeWithin 100649 (size_of f table covering path)
+plain_size f table covering TableScan t u =
+    sized_small WholeTable (table_rows f table) (table_rows f table) 0 t (omega arith)
+plain_size f table covering (RowidEq part) t u =
     sized_small ByRowid (table_rows f table) (rowid_entries (table_rows f table) part)
-    (seeks_of (part ∷ [])) (part_small _ part (tables_small f h table)) (seeks_small (part ∷ []))
-plain_size f h table covering (RowidRange low high) u =
-    let t = tables_small f h table in
+    (seeks_of (part ∷ [])) (part_small _ part t) (seeks_small (part ∷ []))
+plain_size f table covering (RowidRange low high) t u =
     sized_small ByRowid (table_rows f table) (within_bounds low high (table_rows f table)) 0
     (omega (arith, t)) (omega arith)
-plain_size f h table covering (IndexScan index) u =
+plain_size f table covering (IndexScan index) t u =
     sized_small (cond covering CoveringScan PlainScan) (table_rows f table) (table_rows f table) 0
-    (tables_small f h table) (omega arith)
-plain_size f h table covering (IndexSeek index eqs low high) u =
-    let t = tables_small f h table in
+    t (omega arith)
+plain_size f table covering (IndexSeek index eqs low high) t u =
     let m = min-le_left (table_rows f table)
     (within_bounds low high (index_rows f index (length eqs) + seeks_of eqs)) in
     sized_small (cond covering CoveringSeek PlainSeek) (table_rows f table)
     (min (table_rows f table)
     (within_bounds low high (index_rows f index (length eqs) + seeks_of eqs))) (seeks_of eqs)
     (omega (arith, t, m)) (seeks_small eqs)
-plain_size f h table covering (Union branches) u = absurd (cc)
+plain_size f table covering (Union branches) t u = absurd (cc)
 
--- no branch of a union is a union
-abbrev pub ArePlain : Paths → Type 0
-ArePlain Nowhere = Unit {0}
-ArePlain (Then path paths) = (is_union path ≡ false) × ArePlain paths
-
-abbrev pub IsFlat : Path → Type 0
-IsFlat (Union paths) = ArePlain paths
-IsFlat path = Unit {0}
-
-sizes_small : (f : Figures) → AreSmall f → (table : ℕ) (before : Size) (paths : Paths)
-    → before.run ≤ 100709 → ArePlain paths → (sizes_from f table before paths).run ≤ 100709
-sizes_small f h table before Nowhere l u = l
-sizes_small f h table before (Then path paths) l u =
-    let s = plain_size f h table false path u.0 in
-    sizes_small f h table (join_sizes before (size_of f table false path)) paths
+sizes_small : (f : Figures) (table : ℕ) (before : Size) (paths : Paths)
+    → table_rows f table ≤ 1000 → before.run ≤ 100709 → ArePlain paths
+    → (sizes_from f table before paths).run ≤ 100709
+sizes_small f table before Nowhere t l u = l
+sizes_small f table before (Then path paths) t l u =
+    let s = plain_size f table false path t u.0 in
+    sizes_small f table (join_sizes before (size_of f table false path)) paths t
     (log_add_close before.run (size_of f table false path).run 100649 (omega (arith, l)) s.run) u.1
 
-union_small : (f : Figures) → AreSmall f → (table : ℕ) (covering : Bool) (paths : Paths)
-    → ArePlain paths → SizeWithin 100709 (size_of f table covering (Union paths))
-union_small f h table covering Nowhere u =
-    record { run = omega arith; entries = omega arith }
-union_small f h table covering (Then path paths) u =
-    let s = plain_size f h table false path u.0 in
-    let t = tables_small f h table in
+union_small : (f : Figures) (table : ℕ) (covering : Bool) (paths : Paths)
+    → table_rows f table ≤ 1000 → ArePlain paths
+    → SizeWithin 100709 (size_of f table covering (Union paths))
+union_small f table covering Nowhere t u = record { run = omega arith; entries = omega arith }
+union_small f table covering (Then path paths) t u =
+    let s = plain_size f table false path t u.0 in
     let joined = sizes_from f table (size_of f table false path) paths in
     let m = min-le_left (table_rows f table) joined.entries in
     let first = s.run in
     record {
-      run = sizes_small f h table (size_of f table false path) paths (omega (arith, first)) u.1;
+      run = sizes_small f table (size_of f table false path) paths t (omega (arith, first)) u.1;
       entries = omega (arith, t, m);
     }
 
 wider : (z : Size) → SizeWithin 100649 z → SizeWithin 100709 z
 wider z h = let r = h.run in record { run = omega (arith, r); entries = h.entries }
 
-pub size_small : (f : Figures) → AreSmall f → (table : ℕ) (covering : Bool) (path : Path)
-    → IsFlat path → SizeWithin 100709 (size_of f table covering path)
-size_small f h table covering TableScan u = wider _ (plain_size f h table covering TableScan refl)
-size_small f h table covering (RowidEq part) u =
-    wider _ (plain_size f h table covering (RowidEq part) refl)
-size_small f h table covering (RowidRange low high) u =
-    wider _ (plain_size f h table covering (RowidRange low high) refl)
-size_small f h table covering (IndexScan index) u =
-    wider _ (plain_size f h table covering (IndexScan index) refl)
-size_small f h table covering (IndexSeek index eqs low high) u =
-    wider _ (plain_size f h table covering (IndexSeek index eqs low high) refl)
-size_small f h table covering (Union paths) u = union_small f h table covering paths u
+pub size_small : (f : Figures) (table : ℕ) (covering : Bool) (path : Path)
+    → table_rows f table ≤ 1000 → IsFlat path
+    → SizeWithin 100709 (size_of f table covering path)
+size_small f table covering TableScan t u = wider _ (plain_size f table covering TableScan t refl)
+size_small f table covering (RowidEq part) t u =
+    wider _ (plain_size f table covering (RowidEq part) t refl)
+size_small f table covering (RowidRange low high) t u =
+    wider _ (plain_size f table covering (RowidRange low high) t refl)
+size_small f table covering (IndexScan index) t u =
+    wider _ (plain_size f table covering (IndexScan index) t refl)
+size_small f table covering (IndexSeek index eqs low high) t u =
+    wider _ (plain_size f table covering (IndexSeek index eqs low high) t refl)
+size_small f table covering (Union paths) t u = union_small f table covering paths t u

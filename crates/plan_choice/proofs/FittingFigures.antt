@@ -22,7 +22,7 @@ use Rattle.plan_choice.specs.GivenFigures.{table_counts}
 use Rattle.plan_choice.specs.Advice.{Source, Sampled, AsGiven, figures_by, full_schema}
 use Rattle.plan_choice.specs.FigureLaws.{AreOfIndexes, AreOfSchema, AreSmall, CountedFiguresFit}
 use Rattle.plan_choice.specs.FigureLaws.{GivenFiguresFit, AdviceFiguresFit, LogarithmsAreSmall}
-use Rattle.plan_choice.proofs.Lists.{all_mapped}
+use Rattle.list_laws.proofs.Lists.{all_mapped}
 use Rattle.plan_choice.proofs.CostBounds.{below_case, log_est_small, each_within, exponent_at_most}
 use Rattle.plan_choice.proofs.CostBounds.{log_at_most}
 
@@ -188,7 +188,7 @@ given_of names rows (index ∷ indexes) (name ∷ own) (n ∷ ns) h = (
   given_of names rows indexes own ns h.1,
 )
 
-tables_count : (names : Names) (rows : List Given) (indexes : List Index)
+pub tables_count : (names : Names) (rows : List Given) (indexes : List Index)
     (given : List (Option Counts)) (table : ℕ) (ns : List ℕ)
     → length (given_tables names rows indexes given table ns) ≡ length ns
 tables_count names rows indexes given table [] = refl

@@ -180,7 +180,7 @@ decode_is table h l =
     ∙ ap (read 0) (behind_is (codes "_idx_") (hex_digits 8 h))
     ∙ read_hex 8 h l
 
-bytes_are : (xs ys : List ℕ) → bytes_eq xs ys ≡ true → xs ≡ ys
+pub bytes_are : (xs ys : List ℕ) → bytes_eq xs ys ≡ true → xs ≡ ys
 bytes_are xs ys e = search (rules, bytes_eq-Decides xs ys, e)
 
 same_is : (xs ys : List ℕ) → eq_by_cmp (slice_cmp nat_cmp) xs ys ≡ true → xs ≡ ys

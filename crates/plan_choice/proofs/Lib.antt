@@ -1,4 +1,3 @@
-pub mod Lists
 pub mod ListedOffers
 pub mod ChosenCosts
 pub mod Orderings

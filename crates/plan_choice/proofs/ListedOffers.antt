@@ -29,7 +29,7 @@ use Rattle.plan_choice.specs.Offers.{lighter}
 use Rattle.plan_choice.specs.Offers.{lightest, branch_seeks, seek_run, branch_seek, both_or_none}
 use Rattle.plan_choice.specs.Offers.{union_seeks, union_offers}
 use Rattle.plan_choice.specs.OfferLaws.{IsOffered, ListedOffersAreOffers}
-use Rattle.plan_choice.proofs.Lists.{all_mapped}
+use Rattle.list_laws.proofs.Lists.{all_mapped}
 
 -- the premises, together
 pub record IsNext (s : Setting) (placed : List ℕ) (item : ℕ) : Type 0 where

@@ -10,7 +10,7 @@ use Rattle.sql_meaning.specs.Schemas.{Schema}
 use Rattle.sql_meaning.specs.Paths.{Path}
 use Rattle.sql_meaning.specs.Plans.{Loop}
 use Rattle.sql_meaning.specs.OrderState.{is_done, directions}
-use Rattle.sql_meaning.proofs.Paths.{all_sort}
+use Rattle.list_laws.proofs.SortedViews.{all_sort}
 use Rattle.plan_choice.specs.Figures.{Figures}
 use Rattle.plan_choice.specs.Settings.{Setting, Statement, setting, table_for}
 use Rattle.plan_choice.specs.Offers.{Offer, offers, lightest}
@@ -23,7 +23,7 @@ use Rattle.plan_choice.specs.Choice.{chosen_prefix, with_directions, directed}
 use Rattle.plan_choice.specs.Advice.{full_schema, full_figures, plans_over}
 use Rattle.sql_meaning.specs.Fitting.{FitsTable, FitsTables}
 use Rattle.plan_choice.specs.FitLaws.{ChosenPlansFit, AdvicePlansFit}
-use Rattle.plan_choice.proofs.Lists.{all_take, all_mapped}
+use Rattle.list_laws.proofs.Lists.{all_take, all_mapped}
 use Rattle.plan_choice.proofs.ListedOffers.{lightest_one}
 use Rattle.plan_choice.proofs.SoundPrefixes.{numbered_are}
 use Rattle.plan_choice.proofs.FittingPaths.{listed_offers_fit}

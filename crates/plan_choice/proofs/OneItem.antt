@@ -1,7 +1,7 @@
 -- Of one item the nearest offer is chosen.
 use Rattle.std.specs.List.{AllByRecursion, filter, flat_map}
 use Rattle.std.proofs.Common.{◌≡◌, ◌≤◌, ℕ, Bool, true, false, cond, ◌==◌}
-use Rattle.std.proofs.Common.{nat_lt, List, [], ◌∷◌, ◌++◌, length, map, take, refl, sym, ap, ◌∙◌}
+use Rattle.std.proofs.Common.{nat_lt, List, [], ◌∷◌, length, map, take, refl, sym, ap, ◌∙◌}
 use Rattle.std.proofs.Common.{subst}
 use Rattle.std.proofs.Common.{arith}
 use Rattle.std.specs.declared.cmp.Ordering.{Ordering}
@@ -12,6 +12,7 @@ use Rattle.std.specs.Cmp.Lexicographic.{slice_cmp}
 use Rattle.std.proofs.lemmas.Bool.{ltb-true, eqb-true}
 use Rattle.std.proofs.lemmas.Cmp.{on_total, nat_list_cmp_total, tied_itself}
 use Rattle.list_laws.specs.Order.{Ascends, insert_by, sort_by}
+use Rattle.list_laws.proofs.Lists.{all_first}
 use Rattle.list_laws.proofs.Orders.{Ascends-sort_by}
 use Rattle.list_laws.specs.FirstComing.{keep_first}
 use Rattle.std.proofs.Common.{Option}
@@ -86,11 +87,6 @@ first_is s w (y ∷ ys) h f =
     let most = weight_at_most s y w (f y each) in
     subst (λ (b : Bool). IsNearest s (cond b w y) (y ∷ ys))
     (sym (le-ltb (weight w) (weight y) most)) each
-
-all_first : {X : Type 0} (P : X → Type 0) (xs ys : List X) → AllByRecursion P (xs ++ ys)
-    → AllByRecursion P xs
-all_first P [] ys h = tt
-all_first P (x ∷ xs) ys h = (h.0, all_first P xs ys h.1)
 
 unmapped : {X Y : Type 0} (P : Y → Type 0) (f : X → Y) (xs : List X) → AllByRecursion P (map f xs)
     → AllByRecursion (λ x. P (f x)) xs

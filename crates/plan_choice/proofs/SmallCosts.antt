@@ -12,7 +12,7 @@ use Rattle.sql_meaning.specs.Terms.{Term}
 use Rattle.sql_meaning.specs.Choices.{Seek}
 use Rattle.sql_meaning.specs.Paths.{Path, TableScan, RowidEq, RowidRange, IndexScan, IndexSeek}
 use Rattle.sql_meaning.specs.Paths.{Union, Paths, Nowhere, Then}
-use Rattle.sql_meaning.proofs.Paths.{all_sort}
+use Rattle.list_laws.proofs.SortedViews.{all_sort}
 use Rattle.plan_choice.specs.Logarithms.{log_add, sort_cost}
 use Rattle.plan_choice.specs.Costs.{thinned, size_of, Cost}
 use Rattle.plan_choice.specs.Settings.{Setting, setting, terms_for, table_for, indexes_on}
@@ -36,7 +36,7 @@ use Rattle.plan_choice.proofs.AdvicePlans.{still_plannable}
 use Rattle.plan_choice.proofs.FittingFigures.{advice_figures_fit}
 use Rattle.plan_choice.specs.FigureLaws.{AreSmall}
 use Rattle.plan_choice.specs.CostLaws.{WrittenPlansAreSmall}
-use Rattle.plan_choice.proofs.Lists.{all_take, all_mapped}
+use Rattle.list_laws.proofs.Lists.{all_take, all_mapped}
 use Rattle.plan_choice.proofs.ListedOffers.{IsNext, offers_are, lightest_one}
 use Rattle.plan_choice.proofs.SoundPrefixes.{IsOwn, numbered_are, empty_is}
 use Rattle.plan_choice.proofs.SoundLevels.{next_are, next_of}
@@ -45,7 +45,8 @@ use Rattle.plan_choice.proofs.SoundLevels.{none_placed}
 use Rattle.plan_choice.proofs.ChosenPlans.{own_setting}
 use Rattle.plan_choice.proofs.ChosenCosts.{chosen_plans_cost_no_more}
 use Rattle.plan_choice.proofs.CostBounds.{below_case, log_add_close, seek_small}
-use Rattle.plan_choice.proofs.CostBounds.{ArePlain, IsFlat, size_small}
+use Rattle.plan_choice.specs.CostLaws.{ArePlain, IsFlat}
+use Rattle.plan_choice.proofs.CostBounds.{size_small, tables_small}
 
 -- each offer costs what its path does
 abbrev HasCost : Setting → ℕ → Offer → Type 0
@@ -111,7 +112,8 @@ record CostWithin (c : Cost) : Type 0 where
 cost_small : (s : Setting) (placed : List ℕ) (item : ℕ) (o : Offer) → AreSmall s.figures
     → IsOffered s placed item false o → HasCost s item o → CostWithin o.cost
 cost_small s placed item o f h c =
-    let z = size_small s.figures f (table_for s item) o.covering o.path
+    let z = size_small s.figures (table_for s item) o.covering o.path
+    (tables_small s.figures f (table_for s item))
     (flat_path s.schema (item_alias s.schema s.bound item) o.path o.used h.carries) in
     let run = z.run in
     let entries = z.entries in

@@ -9,14 +9,14 @@ use Rattle.list_laws.proofs.Lists.{filter_all}
 use Rattle.list_laws.proofs.Bools.{or_later, both_true}
 use Rattle.list_laws.proofs.FirstComings.{all_keep}
 use Rattle.sql_meaning.specs.Statements.{Bound, has_number, all_in, is_left, numbers_from}
-use Rattle.sql_meaning.proofs.Paths.{all_sort}
+use Rattle.list_laws.proofs.SortedViews.{all_sort}
 use Rattle.plan_choice.specs.Settings.{Setting}
 use Rattle.plan_choice.specs.Offers.{lighter, lightest}
 use Rattle.plan_choice.specs.Prefixes.{OfferedLoop, Prefix, placed_in, empty_prefix, extended}
 use Rattle.plan_choice.specs.Prefixes.{may_come, next_items, offered_loops, extensions, stays_right}
 use Rattle.plan_choice.specs.Choice.{neighbor_count, nearer, rivals, next_level, levels, last_level}
 use Rattle.plan_choice.specs.Choice.{written, written_from, written_step, extended_by}
-use Rattle.plan_choice.proofs.Lists.{all_take, all_mapped}
+use Rattle.list_laws.proofs.Lists.{all_take, all_mapped}
 use Rattle.plan_choice.proofs.ListedOffers.{IsNext, lightest_one}
 use Rattle.plan_choice.proofs.OfferedLoops.{IsOfferedLoop, placed_more}
 use Rattle.plan_choice.proofs.PlacedItems.{unplaced}

@@ -128,13 +128,6 @@ given_has names rows (index ∷ indexes) (name ∷ own) = (
 )
 
 -- a table, by its number
-pub tables_length : (names : Names) (rows : List Given) (indexes : List Index)
-    (given : List (Option Counts)) (table : ℕ) (ns : List ℕ)
-    → length (given_tables names rows indexes given table ns) ≡ length ns
-tables_length names rows indexes given table [] = refl
-tables_length names rows indexes given table (n ∷ ns) =
-    ap suc (tables_length names rows indexes given (suc table) ns)
-
 pub tables_are : (names : Names) (rows : List Given) (indexes : List Index)
     (given : List (Option Counts)) (table : ℕ) (ns : List ℕ) (k : ℕ) → k < length ns
     → get_or (given_tables names rows indexes given table ns) k 0

@@ -1,10 +1,9 @@
 -- Lists by what stands at each number.
 use Rattle.std.specs.List.{AllByRecursion}
 use Rattle.std.proofs.Common.{◌≡◌, ℕ, zero, suc, ◌+◌, ◌<◌, ◌≤◌, refl, arith, ap, sym, ◌∙◌, subst}
-use Rattle.std.proofs.Common.{List, [], ◌∷◌, ◌++◌, length, map, get_or, take, drop, add-one}
+use Rattle.std.proofs.Common.{List, [], ◌∷◌, ◌++◌, length, map, get_or, take, add-one}
 use Rattle.std.proofs.Common.{Some, None, Option}
 use Rattle.std.proofs.Common.{slice_get}
-use Rattle.std.proofs.Math.Seq.{drop-cons}
 use Rattle.std.proofs.lemmas.List.{map_push}
 use Rattle.sql_meaning.specs.Statements.{numbers_from}
 
@@ -73,10 +72,6 @@ all_at P [] i x h e = absurd (cc)
 all_at P (y ∷ ys) zero x h e =
     let same : y ≡ x = (let both : Some y ≡ Some x = e in cc) in subst P same h.0
 all_at P (y ∷ ys) (suc i) x h e = all_at P ys i x h.1 e
-
-pub next_at : {X : Type 0} (xs : List X) (i : ℕ) (x : X) → i < length xs → x ≡ get_or xs i x
-    → drop i xs ≡ x ∷ drop (i + 1) xs
-next_at xs i x h e = rw add-one (drop-cons xs i x h ∙ ap (λ y. y ∷ drop (suc i) xs) (sym e))
 
 pub taken_more : {X : Type 0} (xs : List X) (i : ℕ) (x : X) (new old : List X) (z : X)
     → new ≡ old ++ z ∷ [] → old ≡ take i xs → slice_get xs i ≡ Some x → z ≡ x

@@ -2,7 +2,7 @@
 use Rattle.std.specs.List.{list_any, position, position_or_len}
 use Rattle.std.specs.Cmp.Lexicographic.{slice_cmp, texts_ties}
 use Rattle.std.specs.Ordering.{eq_by_cmp, nat_cmp}
-use Rattle.std.proofs.Common.{◌≡◌, ℕ, zero, suc, ◌+◌, ◌<◌, ◌≤◌, Bool, true, false, not, ◌||◌}
+use Rattle.std.proofs.Common.{◌≡◌, ℕ, zero, suc, ◌+◌, ◌<◌, ◌≤◌, Bool, true, false, not}
 use Rattle.std.proofs.Common.{◌==◌, cond, refl, arith}
 use Rattle.std.proofs.Common.{ap, sym, ◌∙◌, List, [], ◌∷◌, ◌++◌, length, Option, Some, None}
 use Rattle.std.proofs.Common.{slice_get, option_map, nat_lt, nat_eq, ◌&&◌, if◌then◌else◌}
@@ -10,6 +10,7 @@ use Rattle.std.proofs.lemmas.Bool.Decides.{nat_tests}
 use Rattle.std.proofs.lemmas.Cmp.{eq_by_cmp_equiv, nat_list_cmp_total}
 use Rattle.std.proofs.lemmas.List.{length-map}
 use Rattle.std.proofs.lemmas.Option.{slice_get-map}
+use Rattle.list_laws.proofs.Bools.{or_false_left, or_false_right, neither}
 use Rattle.sql_meaning.specs.Letters.{folded, folded_bytes}
 use Rattle.plan_choice.specs.GivenFigures.{Given, is_of_index, same_name}
 use Rattle.schema_model.specs.Names.{is_name, has_name, Differ}
@@ -40,23 +41,15 @@ name_is name held =
     sym (same_bytes (folded_bytes held) (folded_bytes name))
     ∙ turned (folded_bytes held) (folded_bytes name)
 
-left_false : (a b : Bool) → (a || b) ≡ false → a ≡ false
-left_false true b h = absurd (cc)
-left_false false b h = refl
-
-right_false : (a b : Bool) → (a || b) ≡ false → b ≡ false
-right_false true b h = absurd (cc)
-right_false false b h = h
-
 none_at : (f : List ℕ) (names : List (List ℕ)) (k : ℕ) (x : List ℕ) → has_name f names ≡ false
     → slice_get names k ≡ Some x → is_name f x ≡ false
 none_at f [] k x h e = absurd (cc)
 none_at f (y ∷ ys) zero x h e =
     let same : Some y ≡ Some x = e in
     let it : y ≡ x = cc in
-    ap (is_name f) (sym it) ∙ left_false (is_name f y) (list_any (is_name f) ys) h
+    ap (is_name f) (sym it) ∙ or_false_left (is_name f y) (list_any (is_name f) ys) h
 none_at f (y ∷ ys) (suc k) x h e =
-    none_at f ys k x (right_false (is_name f y) (list_any (is_name f) ys) h) e
+    none_at f ys k x (or_false_right (is_name f y) (list_any (is_name f) ys) h) e
 
 -- the place of the first, by recursion
 abbrev place_in : (f : List ℕ) → List (List ℕ) → Option ℕ
@@ -140,11 +133,8 @@ any_first : (p : List ℕ → Bool) (xs ys : List (List ℕ)) → list_any p (xs
     → list_any p xs ≡ false
 any_first p [] ys h = refl
 any_first p (x ∷ xs) ys h =
-    neither (p x) (list_any p xs) (left_false (p x) (list_any p (xs ++ ys)) h)
-    (any_first p xs ys (right_false (p x) (list_any p (xs ++ ys)) h))
-  where
-    neither : (a b : Bool) → a ≡ false → b ≡ false → (a || b) ≡ false
-    neither a b h k = rw (h, k) refl
+    neither (p x) (list_any p xs) (or_false_left (p x) (list_any p (xs ++ ys)) h)
+    (any_first p xs ys (or_false_right (p x) (list_any p (xs ++ ys)) h))
 
 pub differ_first : (xs ys : List (List ℕ)) → Differ (xs ++ ys) → Differ xs
 differ_first [] ys d = tt

@@ -23,7 +23,8 @@ use Rattle.sql_meaning.proofs.Paths.{entry_cmp_total}
 use Rattle.sql_meaning.proofs.Seeks.{column_cmp_total}
 use Rattle.plan_choice.specs.Figures.{agree, distinct_count}
 use Rattle.stat_figures.specs.Changes.{changes, begins, shared_columns}
-use Rattle.stat_figures.proofs.Classes.{sort_count, equivalence, classes_in_order}
+use Rattle.stat_figures.proofs.Classes.{sort_count, classes_in_order}
+use Rattle.list_laws.proofs.Neighbors.{equivalence}
 
 abbrev pub as_sort_column : IndexColumn → SortColumn
 as_sort_column c = record {

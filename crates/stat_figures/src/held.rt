@@ -37,12 +37,12 @@ impl Figures {
         ensures told { result ≡ pos (meant.table_rows self.now table) }
         ensures small { meant.table_rows self.now table ≤ 1000 }
     {
-        log_at(self.tables.as_slice(), table)
+        log_at(self.tables.as_slice(), table as usize)
     }
 
     /// The logarithm of the number of an index's rows that agree in so many of its first columns; 0
     /// where there is no such index or column. Takes no memory.
-    pub fn index_rows(&self, index: u32, columns: u32) -> i32
+    pub fn index_rows(&self, index: u32, columns: usize) -> i32
         ensures told { result ≡ pos (meant.index_rows self.now index columns) }
         ensures small { meant.index_rows self.now index columns ≤ 1000 }
     {
@@ -73,10 +73,10 @@ impl Figures {
     }
 }
 
-fn log_at(logs: &[u16], number: u32) -> i32
+fn log_at(logs: &[u16], number: usize) -> i32
     ensures { result ≡ pos (slice_index_or logs.now number 0) }
 {
-    match logs.get(number as usize) {
+    match logs.get(number) {
         Some(log) => *log as i32,
         None => 0,
     }

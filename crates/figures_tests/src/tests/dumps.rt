@@ -37,7 +37,7 @@ fn add_index(
     text.append(b" =")?;
     for count in 0..columns + 1 {
         text.push(b' ')?;
-        add_number(alloc, text, figures.index_rows(index, count as u32))?;
+        add_number(alloc, text, figures.index_rows(index, count))?;
     }
     text.append(if figures.unordered(index) {
         b" unordered"

@@ -5,7 +5,7 @@ use Rattle.index_lists.specs.Lent.{lent_rows}
 use Rattle.plan_choice.specs.Figures.{agree}
 use Rattle.schema_model.specs.PlainSchemas.{plain_index_column, plain_row}
 use Rattle.stat_figures.specs.Changes.{changes}
-use Rattle.stat_figures.proofs.Lists.{next_at}
+use Rattle.list_laws.proofs.Turns.{next_dropped}
 use Rattle.stat_figures.proofs.Prefixes.{changes_step, raised_by}
 use Rattle.stat_figures.proofs.changes.count_values.Goals as goal
 
@@ -25,7 +25,7 @@ loop-row-preserved c =
           (ap
           (λ later. get_or counts k 0
           + changes (agree (take k columns)) (plain_row c.loop-row.last.now) (lent_rows later))
-          (sym (next_at c.args.rest.now i c.row-item.result (omega arith) c.row-item.is))
+          (sym (next_dropped c.args.rest.now i c.row-item.result (omega arith) c.row-item.is))
           ∙ c.loop-row.invariant.told k h)
           (c.raise_behind.ensures.raised k (omega arith));
     }

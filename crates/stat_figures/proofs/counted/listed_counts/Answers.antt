@@ -7,7 +7,7 @@ use Rattle.plan_choice.specs.Figures.{agree, quotient_up}
 use Rattle.schema_model.specs.PlainSchemas.{plain_index_column, plain_row}
 use Rattle.stat_figures.specs.Changes.{begins}
 use Rattle.stat_figures.proofs.CountLists.{counts_none, counts_are}
-use Rattle.stat_figures.proofs.Lists.{next_at}
+use Rattle.list_laws.proofs.Turns.{next_dropped}
 use Rattle.stat_figures.proofs.Prefixes.{as_sort_column}
 use Rattle.stat_figures.proofs.counted.listed_counts.Goals as goal
 
@@ -27,7 +27,7 @@ returns c = λ rows e.
     let distinct = c.in_ok-distinct.distinct.items in
     let split : plain_row c.first-item.result.now ∷ lent_rows (drop 1 entries)
     ≡ lent_rows entries =
-    ap lent_rows (sym (next_at entries 0 c.first-item.result (omega arith) c.first-item.is)) in
+    ap lent_rows (sym (next_dropped entries 0 c.first-item.result (omega arith) c.first-item.is)) in
     c.in_ok-counts.ensures
     ∙ ap (map (quotient_up (length entries))) c.as_slice.ensures.value
     ∙ ap (λ n. map (quotient_up n) distinct) (sym (length-map entries (λ row. plain_row row.now)))

@@ -3,7 +3,8 @@ use Rattle.plan_choice.specs.GivenFigures as meant
 use Rattle.schema_model.specs.PlainSchemas.{plain_schema}
 use Rattle.stat_figures.specs.GivenCounts.{plain_slots}
 use Rattle.stat_figures.specs.Requests.{names_of, plain_given}
-use Rattle.stat_figures.proofs.GivenLists.{tables_are, tables_length}
+use Rattle.stat_figures.proofs.GivenLists.{tables_are}
+use Rattle.plan_choice.proofs.FittingFigures.{tables_count}
 use Rattle.stat_figures.proofs.Lists.{same_list}
 use Rattle.stat_figures.proofs.given_tables.given_tables.Goals as goal
 
@@ -17,7 +18,7 @@ returns c = λ own.
     let indexes = (plain_schema c.args.schema.now).indexes in
     let given = plain_slots c.args.slots.now in
     let counted = c.args.counted.items in
-    let long = tables_length names rows indexes given 0 counted in
+    let long = tables_count names rows indexes given 0 counted in
     same_list 0 c.take_rows.new.tables.items (meant.given_tables names rows indexes given 0 counted)
     (c.in_ok-take_rows.ensures.len ∙ c.take_indexes.ensures.len ∙ sym long)
     (λ k h.

@@ -1,0 +1,3 @@
+mod Casts
+mod DueLists
+mod Joining
