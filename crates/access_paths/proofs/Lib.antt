@@ -1,0 +1,14 @@
+pub mod Placed
+pub mod UsableTerms
+pub mod Rises
+pub mod FoundColumns
+pub mod Takes
+pub mod NumbersInOrder
+pub mod RowidTerms
+pub mod IndexLists
+pub mod SameItems
+pub mod Lightest
+pub mod PlainSeeks
+pub mod BranchSeeks
+pub mod ToldOffers
+pub mod ItemLookups
