@@ -27,7 +27,7 @@ use Rattle.plan_choice.proofs.SoundPrefixes.{IsOwn, IsPrefix, AreIn, free_in}
 use Rattle.plan_choice.proofs.SoundLevels.{last_is, written_is}
 
 -- the same numbers in another order
-has_same : (free : ℕ → Bool) (is js : List ℕ) (a : ℕ) → Rearranges free is js
+pub has_same : (free : ℕ → Bool) (is js : List ℕ) (a : ℕ) → Rearranges free is js
     → has_number a is ≡ has_number a js
 has_same free is js a (same items) = refl
 has_same free is js a (next i items others r) =
@@ -60,11 +60,11 @@ placed_some [] [] n h e some is = some (sym e)
 placed_some [] (y ∷ ys) n h e some is = let no : false ≡ true = h.0 in cc
 placed_some (t ∷ ts) order n h e some is = cc
 
-none_of : (s : Setting) (d : Bool) (ts : List OfferedLoop) → items_of ts ≢ []
+pub none_of : (s : Setting) (d : Bool) (ts : List OfferedLoop) → items_of ts ≢ []
     → directed s d (map loop_of ts) ≢ []
 none_of s d ts some e = some (sym (items_by s d ts) ∙ ap loop_items e)
 
-whole_order : (s : Setting) (p : Prefix) (h : IsPrefix s (length s.bound.items) p)
+pub whole_order : (s : Setting) (p : Prefix) (h : IsPrefix s (length s.bound.items) p)
     → h.order.order ≡ numbers_from 0 (length s.bound.items)
 whole_order s p h =
     rising_numbers 0 (length s.bound.items) h.order.order h.order.rises
@@ -115,7 +115,7 @@ choice_case : (s : Setting) (count : ℕ) (p w : Prefix) (b : Bool) → IsPrefix
 choice_case s count p w true h k = k
 choice_case s count p w false h k = h
 
-nearest_is : (s : Setting) (count : ℕ) (ps : List Prefix) (w : Prefix)
+pub nearest_is : (s : Setting) (count : ℕ) (ps : List Prefix) (w : Prefix)
     → AllByRecursion (IsPrefix s count) ps → IsPrefix s count w
     → IsPrefix s count (nearest_or ps w)
 nearest_is s count [] w h k = k
@@ -141,7 +141,7 @@ own_setting schema figures statement h = record {
       ∙ ap (terms_of_item schema statement.bound) e;
 }
 
-prefix_offered : (s : Setting) → IsOwn s → IsPlannable s.schema s.bound
+pub prefix_offered : (s : Setting) → IsOwn s → IsPlannable s.schema s.bound
     → FitsOffers s.schema (plan_of s (chosen_prefix s))
     × FitsOrder s.schema (plan_of s (chosen_prefix s))
 prefix_offered s o h =

@@ -105,7 +105,7 @@ flat_path schema alias (RowidRange low high) used h = tt
 flat_path schema alias (IndexScan index) used h = tt
 flat_path schema alias (IndexSeek index eqs low high) used h = tt
 
-record CostWithin (c : Cost) : Type 0 where
+pub record CostWithin (c : Cost) : Type 0 where
   pub run : c.run ≤ 100709
   pub rows : c.rows ≤ 1000
 
@@ -119,7 +119,7 @@ cost_small s placed item o f h c =
     let entries = z.entries in
     subst CostWithin (sym c.1) (record { run = run; rows = omega (arith, entries) })
 
-offered_loops_small : (s : Setting) (placed : List ℕ) (item : ℕ) → AreSmall s.figures
+pub offered_loops_small : (s : Setting) (placed : List ℕ) (item : ℕ) → AreSmall s.figures
     → IsNext s placed item
     → AllByRecursion (λ t. CostWithin t.offer.cost) (offered_loops s placed item)
 offered_loops_small s placed item f n =
@@ -129,7 +129,7 @@ offered_loops_small s placed item f n =
     (offers_are s placed item false n) (offers_cost s placed item)))
 
 -- the rows and the cost of a prefix, but for its weight
-record IsCheap (count : ℕ) (p : Prefix) : Type 0 where
+pub record IsCheap (count : ℕ) (p : Prefix) : Type 0 where
   pub rows : p.rows ≤ 1000 * count
   pub cost : p.cost ≤ 1000 * count + 101060
 
@@ -140,7 +140,7 @@ joined_small count (t ∷ ts) cost runs h l =
     let sum = log_add_close cost runs (1000 * count + 101000) (omega (arith, h)) l in
     omega (arith, sum)
 
-extended_small : (s : Setting) (count : ℕ) (p : Prefix) (t : OfferedLoop) → IsCheap count p
+pub extended_small : (s : Setting) (count : ℕ) (p : Prefix) (t : OfferedLoop) → IsCheap count p
     → CostWithin t.offer.cost → IsCheap (suc count) (extended s p t)
 extended_small s count p t h c =
     let rows = h.rows in
@@ -151,7 +151,7 @@ extended_small s count p t h c =
     (omega (arith, rows, run)) in
     record { rows = omega (arith, rows, few); cost = omega (arith, sum) }
 
-extensions_small : (s : Setting) (count : ℕ) (p : Prefix) → IsOwn s → AreSmall s.figures
+pub extensions_small : (s : Setting) (count : ℕ) (p : Prefix) → IsOwn s → AreSmall s.figures
     → IsCheap count p → AllByRecursion (IsCheap (suc count)) (extensions s p)
 extensions_small s count p o f h =
     all_flat_map (IsCheap (suc count))
@@ -162,7 +162,7 @@ extensions_small s count p o f h =
     (offered_loops_small s (placed_in p) i f (next_of s (placed_in p) i o n.0 n.1))))
     (next_are s.bound (placed_in p)))
 
-levels_small : (s : Setting) (count n : ℕ) (kept : List Prefix) → IsOwn s → AreSmall s.figures
+pub levels_small : (s : Setting) (count n : ℕ) (kept : List Prefix) → IsOwn s → AreSmall s.figures
     → AllByRecursion (IsCheap count) kept
     → AllByRecursion (IsCheap (count + n)) (levels s n kept)
 levels_small s count zero kept o f h =
@@ -178,7 +178,7 @@ levels_small s count (suc n) kept o f h =
     (all_flat_map _ _ kept
     (all_map _ _ kept (λ p c. extensions_small s count p o f c) h))))))
 
-weight_small : (count : ℕ) (p : Prefix) → IsCheap count p → IsSmall count p
+pub weight_small : (count : ℕ) (p : Prefix) → IsCheap count p → IsSmall count p
 weight_small count p h =
     let rows = h.rows in
     let cost = h.cost in
@@ -202,7 +202,7 @@ prefixes_are_small = λ schema figures statement f h count.
     (levels_small s 0 count (empty_prefix s ∷ []) (own_setting schema figures statement h) f
     (record { rows = omega arith; cost = omega arith }, tt)))
 
-step_small : (s : Setting) (p : Prefix) (i : ℕ) → IsOwn s → AreSmall s.figures → IsWritten s i p
+pub step_small : (s : Setting) (p : Prefix) (i : ℕ) → IsOwn s → AreSmall s.figures → IsWritten s i p
     → i < length s.bound.items → IsCheap i p → IsCheap (i + 1) (written_step s p i)
 step_small s p i o f w below h =
     let come = front_comes s.bound (placed_in p) i w.front in

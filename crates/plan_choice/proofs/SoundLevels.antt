@@ -45,14 +45,14 @@ pub next_of : (s : Setting) (placed : List ℕ) (i : ℕ) → IsOwn s → may_co
 next_of s placed i o come below =
     record { fits = o.fits; unplaced = unplaced s.bound placed i come; own = o.own i below }
 
-by_taking : (s : Setting) (count : ℕ) (p : Prefix) (i : ℕ) → IsPrefix s count p
+pub by_taking : (s : Setting) (count : ℕ) (p : Prefix) (i : ℕ) → IsPrefix s count p
     → may_come s.bound (placed_in p) i ≡ true → i < length s.bound.items → (t : OfferedLoop)
     → t.item ≡ i → IsOfferedLoop s (placed_in p) t → IsPrefix s (suc count) (extended s p t)
 by_taking s count p i h come below t e k =
     extended_is s count p t h (ap (may_come s.bound (placed_in p)) e ∙ come)
     (subst (λ (j : ℕ). j < length s.bound.items) (sym e) below) k
 
-extensions_are : (s : Setting) (count : ℕ) (p : Prefix) → IsOwn s → IsPrefix s count p
+pub extensions_are : (s : Setting) (count : ℕ) (p : Prefix) → IsOwn s → IsPrefix s count p
     → AllByRecursion (IsPrefix s (suc count)) (extensions s p)
 extensions_are s count p o h =
     all_flat_map (IsPrefix s (suc count))
@@ -64,7 +64,7 @@ extensions_are s count p o h =
     (offered_loops_are s (placed_in p) i (next_of s (placed_in p) i o n.0 n.1))))
     (next_are s.bound (placed_in p)))
 
-next_level_is : (s : Setting) (count : ℕ) (kept : List Prefix) → IsOwn s
+pub next_level_is : (s : Setting) (count : ℕ) (kept : List Prefix) → IsOwn s
     → AllByRecursion (IsPrefix s count) kept
     → AllByRecursion (IsPrefix s (suc count)) (next_level s kept)
 next_level_is s count kept o h =
@@ -73,7 +73,7 @@ next_level_is s count kept o h =
     (all_sort _ (nearer s) _
     (all_flat_map _ _ kept (all_map _ _ kept (λ p i. extensions_are s count p o i) h))))
 
-levels_are : (s : Setting) (count n : ℕ) (kept : List Prefix) → IsOwn s
+pub levels_are : (s : Setting) (count n : ℕ) (kept : List Prefix) → IsOwn s
     → AllByRecursion (IsPrefix s count) kept
     → AllByRecursion (IsPrefix s (count + n)) (levels s n kept)
 levels_are s count zero kept o h =
@@ -158,7 +158,7 @@ pub lightest_some : {X : Type 0} (weight : X → ℕ) (xs : List X) → HasSome 
 lightest_some weight [] h = absurd h
 lightest_some weight (x ∷ xs) h = lighter_some weight x (lightest weight xs)
 
-front_placed : (p : Prefix) (i : ℕ) (s : Setting) (t : OfferedLoop) → t.item ≡ i
+pub front_placed : (p : Prefix) (i : ℕ) (s : Setting) (t : OfferedLoop) → t.item ≡ i
     → IsFront i (placed_in p) → IsFront (i + 1) (placed_in (extended s p t))
 front_placed p i s t e f =
     subst (IsFront (i + 1)) (sym (placed_more p.loops t []))
@@ -186,7 +186,7 @@ written_step_is s p i o w below =
       front = front_placed p i s best.0 is.0 w.front;
     })
 
-written_from_is : (s : Setting) (p : Prefix) (i n : ℕ) → IsOwn s → IsWritten s i p
+pub written_from_is : (s : Setting) (p : Prefix) (i n : ℕ) → IsOwn s → IsWritten s i p
     → i + n ≡ length s.bound.items
     → IsPrefix s (length s.bound.items) (written_from s p i n)
 written_from_is s p i zero o w e =

@@ -1,6 +1,7 @@
 //! What is known of tables and indexes, and how it is read.
 ghost use Rattle.std.specs.Prelude.{◌≡◌, ◌≤◌, pos, slice_index_or, []};
 ghost use Rattle.plan_choice.specs.Figures as meant;
+ghost use Rattle.plan_choice.specs.FigureLaws.{AreSmall};
 
 use sql_value::Items;
 use std::marker::Model;
@@ -72,6 +73,11 @@ impl Figures {
         }
     }
 }
+
+/// A law: each logarithm is at most 1,000.
+pub fn figures_are_small(figures: &Figures)
+    ensures { AreSmall figures.now }
+{}
 
 fn log_at(logs: &[u16], number: usize) -> i32
     ensures { result ≡ pos (slice_index_or logs.now number 0) }

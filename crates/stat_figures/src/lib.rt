@@ -24,7 +24,7 @@ mod texts;
 mod words;
 
 pub use figure_lists::{figures, given_figures};
-pub use held::Figures;
+pub use held::{Figures, figures_are_small};
 pub use logarithms::{log_add, log_est};
 pub use sources::StatSource;
 pub use texts::stat1_text;
