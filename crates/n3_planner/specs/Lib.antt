@@ -1,2 +1,3 @@
--- To be believed: what it is that a list keeps as its members come one by one.
-pub mod Keeping
+-- What `choose` promises is said in words of plan_choice, sql_meaning and plan_form. The definitions
+-- here speak of the steps on the way.
+pub mod PlannedLoops

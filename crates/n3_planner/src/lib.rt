@@ -1,11 +1,13 @@
-//! The order in which a plan walks the tables of a statement
+//! The plan of a statement: in which order it walks its tables, and by which paths
 //! (<https://sqlite.org/queryplanner-ng.html>, "N nearest neighbors").
 //!
-//! What is chosen is defined in `plan_choice`, over sorted lists of all prefixes that are one loop
-//! longer. The law here is what lets prefixes be kept one by one as they come, so that no such list
-//! is made.
+//! What is chosen is defined in `plan_choice`. The search itself is `nearest_prefixes`; here the
+//! nearest prefix that it ends with is compared with the plan in written order, and the chain of
+//! the better one becomes a plan.
 #![tactic(auto)]
 
-mod keeping;
+mod choosing;
+mod planning;
+mod steps;
 
-pub use keeping::kept_one_by_one;
+pub use choosing::{Chosen, choose};

@@ -1,5 +1,0 @@
-use Rattle.n3_planner.proofs.Keepings.{joined_all}
-use Rattle.n3_planner.proofs.keeping.kept_one_by_one.Goals as goal
-
-pub returns : goal.returns
-returns g c = λ rivals same nearer order n all. joined_all same order n all

@@ -1,0 +1,13 @@
+use Rattle.std.proofs.Common.{◌≡◌, ◌-◌, ℕ, List}
+use Rattle.std.specs.List.{filter}
+use Rattle.sql_meaning.specs.Statements.{all_in, is_left, numbers_from}
+use Rattle.sql_bound.specs.Naming.{IsPlaced}
+use Rattle.sql_bound.specs.Statements.{bound_of}
+use Rattle.nearest_prefixes.proofs.coming.left_placed.Given as goal
+
+-- it depends on those that are left
+abbrev pub invariant-loop-other : goal.invariant-loop-other
+invariant-loop-other l =
+    (items : List ℕ) → IsPlaced l.placed items
+    → all_in (filter (is_left (bound_of l.bound)) (numbers_from l.other (l.item - l.other))) items
+    ≡ all_in (filter (is_left (bound_of l.bound)) (numbers_from 0 l.item)) items
