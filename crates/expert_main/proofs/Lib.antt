@@ -1,2 +1,5 @@
+mod Dumped
 mod Lines
+mod Scripts
+mod Spelled
 mod Told

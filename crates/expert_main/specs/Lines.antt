@@ -3,8 +3,8 @@ use Rattle.std.specs.Prelude.{List, ℕ, [], ◌∷◌, ◌++◌, codes}
 
 abbrev pub usage_line : List ℕ
 usage_line =
-    codes "usage: sqlite3_expert [-sql SQL] [-file FILE] [-sample PERCENT] [-verbose LEVEL] DATABASE"
-    ++ 10 ∷ []
+    codes "usage: sqlite3_expert [-sql SQL] [-file FILE] [-sample PERCENT] [-stat MODE]"
+    ++ codes " [-verbose LEVEL] DATABASE" ++ 10 ∷ []
 
 abbrev pub database_too_large_line : List ℕ
 database_too_large_line = codes "sqlite3_expert: database too large" ++ 10 ∷ []
@@ -26,3 +26,6 @@ cannot_write_line = codes "sqlite3_expert: cannot write" ++ 10 ∷ []
 
 abbrev pub memory_line : List ℕ
 memory_line = codes "sqlite3_expert: out of memory" ++ 10 ∷ []
+
+abbrev pub too_many_candidates_line : List ℕ
+too_many_candidates_line = codes "sqlite3_expert: too many candidates" ++ 10 ∷ []

@@ -3,6 +3,7 @@
 
 mod answer;
 mod refusal;
+mod script;
 mod status;
 mod top;
 mod words;

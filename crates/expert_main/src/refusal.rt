@@ -8,11 +8,12 @@ ghost use Rattle.expert_main.specs.Refusals.{status_of, line_of};
 
 use crate::status::{CANNOT_READ, CANNOT_WRITE, INPUT_REFUSED, OUT_OF_MEMORY, USAGE};
 use expert_io::{Failed, Sink, write_all};
+use expert_report::AdviseFault;
 use schema_read::ReadDumpFault;
 use sql_value::Memory;
 
-const USAGE_TEXT: &[u8] =
-    b"usage: sqlite3_expert [-sql SQL] [-file FILE] [-sample PERCENT] [-verbose LEVEL] DATABASE";
+const USAGE_TEXT: &[u8] = b"usage: sqlite3_expert [-sql SQL] [-file FILE] [-sample PERCENT] \
+    [-stat MODE] [-verbose LEVEL] DATABASE";
 
 /// Why there is no report.
 #[derive(Clone, Copy, Drop)]
@@ -23,10 +24,12 @@ pub enum Refusal<'a> {
     DatabaseTooLarge,
     /// The database is a file of SQLite, and no dump.
     DatabaseFile,
-    /// The script has more than 4,194,304 bytes.
+    /// The pieces of the script have more than 4,194,304 bytes together.
     ScriptTooLarge,
     /// The dump names more than 1,000 tables.
     TooManyTables,
+    /// There are more than 2,000 candidates for indexes.
+    TooManyCandidates,
     /// The file of this name can't be read.
     CannotRead(&'a [u8]),
     /// The report can't be written.
@@ -60,6 +63,20 @@ impl<'a> From<ReadDumpFault> for Refusal<'a> {
     }
 }
 
+impl<'a> From<AdviseFault> for Refusal<'a> {
+    ghost use Rattle.std.specs.Prelude.{◌≡◌};
+    ghost use Rattle.expert_main.specs.Refusals.{of_advice};
+
+    ghost from_gives = { λ fault why. why ≡ of_advice fault };
+
+    fn from(fault: AdviseFault) -> Refusal<'a> {
+        match fault {
+            AdviseFault::TooManyCandidates => Refusal::TooManyCandidates,
+            AdviseFault::Memory => Refusal::Memory,
+        }
+    }
+}
+
 // Writes a line in three pieces, so that no memory is wanted for it.
 fn write_line<E: Sink>(err: &mut E, front: &[u8], name: &[u8]) -> Result<(), Failed>
     ensures ok { OnOk result (Appends (E.written err.old) (E.written err.new)
@@ -83,7 +100,8 @@ impl<'a> Refusal<'a> {
             Refusal::DatabaseTooLarge
             | Refusal::DatabaseFile
             | Refusal::ScriptTooLarge
-            | Refusal::TooManyTables => INPUT_REFUSED,
+            | Refusal::TooManyTables
+            | Refusal::TooManyCandidates => INPUT_REFUSED,
             Refusal::CannotRead(_) => CANNOT_READ,
             Refusal::CannotWrite => CANNOT_WRITE,
             Refusal::Memory => OUT_OF_MEMORY,
@@ -100,6 +118,7 @@ impl<'a> Refusal<'a> {
             Refusal::DatabaseFile => (b"sqlite3_expert: database file format not read", &[]),
             Refusal::ScriptTooLarge => (b"sqlite3_expert: script too large", &[]),
             Refusal::TooManyTables => (b"sqlite3_expert: too many tables", &[]),
+            Refusal::TooManyCandidates => (b"sqlite3_expert: too many candidates", &[]),
             Refusal::CannotRead(name) => (b"sqlite3_expert: cannot read ", name),
             Refusal::CannotWrite => (b"sqlite3_expert: cannot write", &[]),
             Refusal::Memory => (b"sqlite3_expert: out of memory", &[]),

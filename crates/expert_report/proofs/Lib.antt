@@ -1,3 +1,8 @@
 mod Blocks
 mod Parsed
-mod Statements
+pub mod Rests
+pub mod Marks
+pub mod Scanned
+pub mod Wholes
+pub mod Named
+pub mod SoundReports

@@ -28,6 +28,3 @@ bind_text bind.BadPosition = codes "ORDER BY position out of range"
 bind_text bind.TooManyTables = codes "more than 64 tables"
 bind_text bind.TooManyTerms = codes "more than 256 terms"
 bind_text bind.Memory = []
-
-abbrev pub not_built_text : List ℕ
-not_built_text = codes "form not built yet"

@@ -1,187 +1,141 @@
-//! From a script to what becomes of each of its statements.
-ghost use Rattle.std.specs.Prelude.{◌≡◌, ◌<◌, ◌^◌, [], ◌∷◌, length, map, None, Some, false};
-ghost use Rattle.std.specs.Prelude.{IfOk, OnOk};
+//! From a dump and a script to the report.
+ghost use Rattle.std.specs.Prelude.{◌≡◌, ◌<◌, ◌≤◌, ◌^◌, Some, length, IfOk, IfErr, OnOk};
 ghost use Rattle.std.specs.List.{AllByRecursion};
-ghost use Rattle.sql_meaning.specs.Asked.{Means};
-ghost use Rattle.sql_tree.specs.Statements.{statement_tree};
-ghost use Rattle.sql_lex.specs.Statements.{run_of};
+ghost use Rattle.plan_choice.specs.Advice.{full_schema};
+ghost use Rattle.schema_model.specs.Databases.{IsDatabase};
 ghost use Rattle.schema_model.specs.PlainSchemas.{plain_schema};
-ghost use Rattle.sql_bound.specs.Fits.{Fits};
-ghost use Rattle.sql_bound.specs.Statements.{bound_of, needs_of};
-ghost use Rattle.sql_bind.specs.Clauses.{sources_of, aliases_statement};
-ghost use Rattle.sql_bind.specs.Binding.{bound_statement};
-ghost use Rattle.sql_bind.specs.Sources.{begins_left};
-ghost use Rattle.plan_form.specs.Scans.{table_scan};
-ghost use Rattle.plan_form.specs.Texts.{aliases_of};
-ghost use Rattle.expert_report.specs.Advice as meant;
-ghost use Rattle.expert_report.specs.Reports.{outcome_of, report_on};
+ghost use Rattle.schema_model.specs.Schemas.{size};
+ghost use Rattle.schema_model.specs.UsableIndexes.{IsEmptyUnlessUsable};
+ghost use Rattle.schema_read.specs.Dumps.{seen_dump};
+ghost use Rattle.expert_advice.specs.Full.{IsFull};
+ghost use Rattle.expert_report.specs.Advice.{IsSound, script_report, script_request};
+ghost use Rattle.expert_report.specs.AdviseFaults.{IsWhy};
+ghost use Rattle.expert_report.specs.Planning.{AdviceMeans, report_by};
+ghost use Rattle.expert_report.specs.Readings.{script_statements};
 
-use crate::faults::{bind_text, parse_text};
-use crate::outcomes::{Report, StatementOutcome, StatementOutcomes};
-use bumpalo::Bump;
-use plan_form::{plan_text, scan_plan, table_scans_mean};
+use crate::outcomes::{Report, Script};
+use crate::planning::{Ground, plan_script};
+use crate::scanning::script_scans;
+use access_paths::TableIndexes;
+use candidate_index::{CandidateFault, candidates};
+use expert_advice::{Uses, candidate_lines, full_figures, full_schema, full_schemas_are_meant};
 use schema_model::Schema;
-use sql_bind::bind;
-use sql_bound::Bound;
-use sql_lex::{Span, Token, lex, run_tokens, statements};
-use sql_parse::{parse, spelled_where_read};
-use sql_tree::{Stmt, place};
-use sql_value::{Bytes, Memory};
+use schema_read::Dump;
+use sql_value::Memory;
+use stat_figures::StatSource;
 use std::alloc::Global;
+use thiserror::Error;
 
-/// Whether a statement has a part that isn't planned yet: a join, ORDER BY, LIMIT, or a change.
-fn is_not_built(statement: &Stmt) -> bool
-    ensures { result ≡ meant.is_not_built (statement_tree statement.now) }
-{
-    match statement {
-        Stmt::Select(select) => {
-            select.sources.len() > 1
-                || !select.keys.is_empty()
-                || select.limit.is_some()
-                || select.offset.is_some()
+/// Why there is no advice.
+#[derive(Clone, Copy, Debug, PartialEq, Eq, Error)]
+pub enum AdviseFault {
+    /// There are more than 2,000 candidates.
+    #[error("too many candidates")]
+    TooManyCandidates,
+    /// Want of memory.
+    #[error("out of memory")]
+    Memory,
+}
+
+impl From<Memory> for AdviseFault {
+    ghost use Rattle.expert_report.specs.AdviseFaults.{IsMemory};
+
+    ghost from_gives = { λ memory fault. IsMemory fault };
+
+    fn from(_: Memory) -> AdviseFault {
+        AdviseFault::Memory
+    }
+}
+
+impl From<CandidateFault> for AdviseFault {
+    ghost use Rattle.std.specs.Prelude.{◌≡◌};
+    ghost use Rattle.expert_report.specs.AdviseFaults.{of_candidates};
+
+    ghost from_gives = { λ fault why. why ≡ of_candidates fault };
+
+    fn from(fault: CandidateFault) -> AdviseFault {
+        match fault {
+            CandidateFault::TooMany => AdviseFault::TooManyCandidates,
+            CandidateFault::Memory => AdviseFault::Memory,
         }
-        Stmt::Update(_) => true,
-        Stmt::Delete(_) => true,
     }
 }
 
-/// The outcome of a statement that has a plan: the scan of its one table.
-fn planned<'a>(
+/// The report, over the schema with all candidates.
+fn report_over(
     alloc: Global,
-    arena: &'a Bump,
-    schema: &Schema,
-    bound: &'a Bound<'a>,
-) -> Result<StatementOutcome, Memory>
-    requires fits { Fits (plain_schema schema.now) (bound_of bound.now) (needs_of bound.now) }
-    requires one { length (bound_of bound.now).items ≡ 1 }
-    requires keys { (bound_of bound.now).keys ≡ [] }
-    ensures outcome { IfOk result (λ outcome. outcome ≡ outcome_of schema.now
-        (meant.Planned (table_scan (bound_of bound.now)) (false ∷ [])
-        (aliases_of bound.now.items.now))) }
-    ensures means { OnOk result (Means (plain_schema schema.now)
-        (table_scan (bound_of bound.now))) }
+    dump: &Dump,
+    full: &Schema,
+    script: &Script,
+    percent: u8,
+    source: StatSource,
+) -> Result<Report, Memory>
+    requires percent { percent ≤ 100 }
+    requires conform { IsDatabase dump.now.schema dump.now.rows }
+    requires full { IsFull dump.now.schema full.now }
+    requires meant { plain_schema full.now
+        ≡ full_schema (script_request (seen_dump dump.now) source percent script.now) }
+    requires pieces { AllByRecursion (λ piece. length piece < 2 ^ 32) script.now }
+    ensures report { IfOk result (λ report. report ≡ report_by (seen_dump dump.now) source percent
+        (script_statements dump.now.schema script.now) full.now) }
+    ensures means { OnOk result (AdviceMeans
+        (script_request (seen_dump dump.now) source percent script.now)) }
 {
-    table_scans_mean();
-    let plan = scan_plan(arena, bound)?;
-    Ok(StatementOutcome::Planned(plan_text(alloc, schema, &plan)?))
-}
-
-/// The outcome of a statement whose names are bound.
-fn bound_outcome<'a>(
-    alloc: Global,
-    arena: &'a Bump,
-    schema: &Schema,
-    statement: &Stmt<'a>,
-    bound: Bound<'a>,
-) -> Result<StatementOutcome, Memory>
-    requires bound { bound_of bound ≡ bound_statement schema.now (statement_tree statement.now) }
-    requires aliases { aliases_of bound.items.now
-        ≡ aliases_statement (statement_tree statement.now) }
-    requires fits { Fits (plain_schema schema.now) (bound_of bound) (needs_of bound) }
-    ensures outcome { IfOk result (λ outcome. outcome ≡ outcome_of schema.now
-        (meant.bound_advice schema.now (statement_tree statement.now) None)) }
-    ensures means { OnOk result (meant.AdviceMeans (plain_schema schema.now)
-        (meant.bound_advice schema.now (statement_tree statement.now) None)) }
-{
-    if is_not_built(statement) {
-        return Ok(StatementOutcome::Refused(Bytes::copy(alloc, b"form not built yet")?));
-    }
-    planned(alloc, arena, schema, place(arena, bound)?)
-}
-
-/// The outcome of a statement that the grammar spells.
-fn tree_outcome<'a>(
-    alloc: Global,
-    arena: &'a Bump,
-    schema: &Schema,
-    statement: &Stmt<'a>,
-) -> Result<StatementOutcome, Memory>
-    requires source { 0 < length (sources_of (statement_tree statement.now)) }
-    requires first { begins_left (sources_of (statement_tree statement.now)) ≡ false }
-    ensures outcome { IfOk result (λ outcome. outcome ≡ outcome_of schema.now
-        (meant.tree_advice schema.now (Some (statement_tree statement.now)))) }
-    ensures means { OnOk result (meant.AdviceMeans (plain_schema schema.now)
-        (meant.tree_advice schema.now (Some (statement_tree statement.now)))) }
-{
-    match bind(alloc, arena, schema, statement) {
-        Ok(bound) => bound_outcome(alloc, arena, schema, statement, bound),
-        Err(fault) => Ok(StatementOutcome::Refused(bind_text(alloc, &fault)?)),
-    }
-}
-
-/// The outcome of a statement of a script, by its tokens.
-fn statement_outcome<'a>(
-    alloc: Global,
-    arena: &'a Bump,
-    schema: &Schema,
-    text: &'a [u8],
-    tokens: &[Token],
-) -> Result<StatementOutcome, Memory>
-    ensures outcome { IfOk result (λ outcome. outcome ≡ outcome_of schema.now
-        (meant.statement_advice schema.now text.now tokens.now)) }
-    ensures means { OnOk result (meant.AdviceMeans (plain_schema schema.now)
-        (meant.statement_advice schema.now text.now tokens.now)) }
-{
-    spelled_where_read();
-    if tokens.len() >= 1 << 32 {
-        return Err(Memory);
-    }
-    match parse(alloc, arena, text, tokens) {
-        Ok(statement) => tree_outcome(alloc, arena, schema, &statement),
-        Err(fault) => Ok(StatementOutcome::Refused(parse_text(alloc, fault)?)),
-    }
-}
-
-/// The outcomes of the statements that stand at these spans.
-fn span_outcomes<'a>(
-    alloc: Global,
-    arena: &'a Bump,
-    schema: &Schema,
-    text: &'a [u8],
-    tokens: &[Token],
-    spans: &[Span],
-) -> Result<StatementOutcomes, Memory>
-    ensures outcomes { IfOk result (λ outcomes. outcomes ≡ map
-        (λ span. outcome_of schema.now (meant.statement_advice schema.now text.now
-        (run_of tokens.now span)))
-        spans.now) }
-    ensures means { OnOk result (AllByRecursion
-        (λ span. meant.AdviceMeans (plain_schema schema.now)
-        (meant.statement_advice schema.now text.now (run_of tokens.now span)))
-        spans.now) }
-{
-    let mut outcomes = StatementOutcomes::new(alloc);
-    for span in spans {
-        outcomes.push(statement_outcome(alloc, arena, schema, text, run_tokens(tokens, *span))?)?;
-    }
-    Ok(outcomes)
-}
-
-/// What becomes of each statement of a script over a schema: its plan, or the first refusal that it
-/// meets. On every database of the schema, and for all parameters, each plan gives the rows that
-/// its statement asks for, as often and in the asked order.
-pub fn advise(alloc: Global, schema: &Schema, script: &[u8]) -> Result<Report, Memory>
-    requires { length script.now < 2 ^ 32 }
-    ensures report { IfOk result (λ report. report
-        ≡ report_on schema.now (meant.script_advice schema.now script.now)) }
-    ensures means { OnOk result (meant.EachMeans schema.now
-        (meant.script_advice schema.now script.now)) }
-{
-    let tokens = lex(alloc, script)?;
-    if tokens.as_slice().len() >= 1 << 32 {
-        return Err(Memory);
-    }
-    let spans = statements(alloc, script, &tokens)?;
-    // The trees of a script stand in one arena.
-    let arena = Bump::new(alloc);
+    let own = dump.schema.index_count();
+    let figures = full_figures(alloc, dump, full, source, percent)?;
+    let indexes = TableIndexes::of(alloc, full)?;
+    let ground = Ground {
+        own: &dump.schema,
+        full,
+        figures: &figures,
+        indexes: &indexes,
+    };
+    let mut uses = Uses::none(alloc, full.index_count() - own)?;
+    let statements = plan_script(alloc, &ground, script, &mut uses)?;
     Ok(Report {
-        statements: span_outcomes(
-            alloc,
-            &arena,
-            schema,
-            script,
-            tokens.as_slice(),
-            spans.as_slice(),
-        )?,
+        tables: dump.schema.table_count(),
+        unread: dump.schema.unread_count(),
+        statements_passed: dump.statements_passed,
+        rows_passed: dump.rows_passed,
+        candidates: candidate_lines(alloc, full, &figures, own)?,
+        statements,
+        recommended: uses.listed(alloc)?,
     })
+}
+
+/// What the advisor says of a script over a dump, of whose rows `percent` of each hundred are
+/// sampled where figures are counted.
+///
+/// All statements are bound first. Candidates are made for those that aren't refused, and each of
+/// these is planned over the schema with all candidates. On every database of that schema, and for
+/// all parameters, each plan gives the rows that its statement asks for, as often and in the asked
+/// order, and costs no more than the plan in written order; and the recommended candidates are just
+/// those that some plan uses.
+///
+/// `TooManyCandidates` comes exactly where there are more than 2,000.
+pub fn advise(
+    alloc: Global,
+    dump: &Dump,
+    script: &Script,
+    percent: u8,
+    source: StatSource,
+) -> Result<Report, AdviseFault>
+    requires percent { percent ≤ 100 }
+    requires conform { IsDatabase dump.now.schema dump.now.rows }
+    requires unusable { AllByRecursion IsEmptyUnlessUsable dump.now.schema.indexes }
+    requires room { size dump.now.schema < 10 ^ 9 }
+    requires pieces { AllByRecursion (λ piece. length piece < 2 ^ 32) script.now }
+    ensures report { IfOk result (λ report.
+        script_report (seen_dump dump.now) source percent script.now ≡ Some report) }
+    ensures sound { IfOk result
+        (IsSound (script_request (seen_dump dump.now) source percent script.now)) }
+    ensures fault { IfErr result
+        (IsWhy (script_report (seen_dump dump.now) source percent script.now)) }
+{
+    full_schemas_are_meant();
+    let asked = script_scans(alloc, &dump.schema, script)?;
+    let found = candidates(alloc, &dump.schema, asked.as_slice())?;
+    let full = full_schema(alloc, &dump.schema, found.as_slice())?;
+    let report = report_over(alloc, dump, &full, script, percent, source)?;
+    Ok(report)
 }

@@ -1,25 +1,49 @@
-//! What the report tells of each statement.
+//! What the advisor says of a script.
 ghost use Rattle.std.specs.Prelude.{◌≡◌};
 ghost use Rattle.expert_report.specs.Reports as meant;
 
+use expert_advice::{CandidateLines, Numbers, PlannedStatement};
 use sql_value::{Bytes, Items};
+
+/// A script: texts of statements, each of which is cut by itself.
+pub type Script = Items<Bytes>;
 
 /// What became of a statement.
 #[derive(Drop)]
 pub enum StatementOutcome {
-    /// The lines of its plan, each with its line feed.
-    Planned(Bytes),
+    /// It has a plan.
+    Planned(PlannedStatement),
     /// Why it is refused.
     Refused(Bytes),
 }
 
-/// The outcomes of a script's statements, in order.
-pub type StatementOutcomes = Items<StatementOutcome>;
+/// What is told of a statement.
+#[derive(Drop)]
+pub struct StatementReport {
+    /// The statement, from its first to its last token.
+    pub text: Bytes,
+    pub outcome: StatementOutcome,
+}
 
-/// What the advisor says of a script.
+/// What is told of a script's statements, in order.
+pub type StatementReports = Items<StatementReport>;
+
+/// What the advisor says of a script over a dump.
 #[derive(Drop)]
 pub struct Report {
-    pub statements: StatementOutcomes,
+    /// How many tables were read.
+    pub tables: u32,
+    /// How many aren't read.
+    pub unread: u32,
+    /// How many statements of the dump were passed over.
+    pub statements_passed: u64,
+    /// How many of its rows were.
+    pub rows_passed: u64,
+    /// The indexes that were tried, by their numbers.
+    pub candidates: CandidateLines,
+    pub statements: StatementReports,
+    /// The numbers of the candidates that some plan uses, rising.
+    pub recommended: Numbers,
 }
 
 impl StatementOutcome {
@@ -42,6 +66,6 @@ impl Report {
         self.statements
             .as_slice()
             .iter()
-            .any(|outcome| outcome.is_refused())
+            .any(|statement| statement.outcome.is_refused())
     }
 }

@@ -9,6 +9,8 @@ use std::test::Fail;
 
 const X1: &str = "CREATE TABLE x1(a,b,c);";
 
+const SELECT: &str = "SELECT * FROM x1";
+
 const SCAN: &str = "-- Statement 1
 (no new indexes)
 
@@ -32,10 +34,12 @@ fn shelf(alloc: Global, failing: u64, most: u64) -> Result<MemoryShelf, Memory>
     requires { 1 ≤ most }
 {
     let mut files = Files::new(alloc);
-    files.push((
-        Bytes::copy(alloc, b"db")?,
-        Bytes::copy(alloc, X1.as_bytes())?,
-    ))?;
+    for (name, text) in [("db", X1), ("q", SELECT)] {
+        files.push((
+            Bytes::copy(alloc, name.as_bytes())?,
+            Bytes::copy(alloc, text.as_bytes())?,
+        ))?;
+    }
     Ok(MemoryShelf::new(files, call(alloc, failing)?, most))
 }
 
@@ -99,7 +103,7 @@ fn faulty(alloc: Global, reading: u64, read: u64, writing: u64, written: u64) ->
     requires reads { 1 ≤ read }
     requires writes { 1 ≤ written }
 {
-    let words = words_of(alloc, &["-sql", "SELECT * FROM x1", "db"])?;
+    let words = words_of(alloc, &["-sql", SELECT, "db"])?;
     run(alloc, &words, reading, read, writing, written, NEVER)
 }
 
@@ -135,6 +139,32 @@ fn tells_faults_of_reading(alloc: Global) -> Result<bool, Memory> {
     )
 }
 
+/// The plan of a scan whose statement stands in a file, where this call fails.
+fn faulty_piece(alloc: Global, reading: u64) -> Result<Ran, Memory> {
+    let words = words_of(alloc, &["-file", "q", "db"])?;
+    run(alloc, &words, reading, 7, NEVER, 999, NEVER)
+}
+
+/// Whether the file of the statement is told to be the one that can't be read.
+fn blames_the_piece(ran: &Ran) -> bool {
+    ran.status == 4
+        && ran.out.written().is_empty()
+        && ran.err.written() == b"sqlite3_expert: cannot read q\n".as_slice()
+}
+
+/// Whether a fault of the open, of each read and of the read of the end is told of a piece of the
+/// script, behind the six calls for the database.
+fn tells_faults_of_a_piece(alloc: Global) -> Result<bool, Memory> {
+    Ok(
+        tells(&faulty_piece(alloc, 6)?, 4, "")
+            && blames_the_piece(&faulty_piece(alloc, 7)?)
+            && blames_the_piece(&faulty_piece(alloc, 8)?)
+            && blames_the_piece(&faulty_piece(alloc, 10)?)
+            && blames_the_piece(&faulty_piece(alloc, 11)?)
+            && tells(&faulty_piece(alloc, 12)?, 0, SCAN),
+    )
+}
+
 fn tells_faults_of_writing(alloc: Global) -> Result<bool, Memory> {
     Ok(
         tells(&faulty(alloc, NEVER, 7, 2, 10)?, 5, "-- Stateme")
@@ -146,6 +176,7 @@ fn tells_faults_of_writing(alloc: Global) -> Result<bool, Memory> {
 fn says_which_outside_call_failed(rt: HostRuntime) -> Result<(), Fail> {
     assert!(rt; tells_the_plan(rt.alloc())?);
     assert!(rt; tells_faults_of_reading(rt.alloc())?);
+    assert!(rt; tells_faults_of_a_piece(rt.alloc())?);
     assert!(rt; tells_faults_of_writing(rt.alloc())?);
     Ok(())
 }
@@ -200,7 +231,7 @@ fn reads_the_largest_scripts(rt: HostRuntime) -> Result<(), Fail> {
     let entries = ["SELECT a FROM x1 WHERE a IN (1", ",1", ")"];
     assert_eq!(rt; report_length(alloc, entries, 99_999)?, SCAN.len());
     let statements = ["", "SELECT a FROM x1;", ""];
-    assert_eq!(rt; report_length(alloc, statements, 246_000)?, 11_450_927);
+    assert_eq!(rt; report_length(alloc, statements, 60_000)?, 2_748_926);
     Ok(())
 }
 

@@ -3,8 +3,8 @@ use Rattle.expert_report.specs.Reports.{blocks}
 use Rattle.expert_report.proofs.report.append_blocks.Given as goal
 
 -- what is left to be written
-abbrev pub invariant-loop-outcome : goal.invariant-loop-outcome
-invariant-loop-outcome l =
-    (l.number ≡ l.outcome-index)
-    × (l.text ++ blocks (l.number + 1) (drop l.outcome-index l.outcomes)
-    ≡ l.initial.text ++ blocks 1 l.outcomes)
+abbrev pub invariant-loop-statement : goal.invariant-loop-statement
+invariant-loop-statement l =
+    (l.number ≡ l.statement-index)
+    × (l.text ++ blocks l.verbose l.candidates (l.number + 1) (drop l.statement-index l.statements)
+    ≡ l.initial.text ++ blocks l.verbose l.candidates 1 l.statements)
